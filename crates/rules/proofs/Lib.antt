@@ -1,0 +1,3 @@
+pub mod Unique
+pub mod Taken
+pub mod Errors

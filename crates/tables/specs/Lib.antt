@@ -1,0 +1,4 @@
+pub mod Bytes
+pub mod Bits
+pub mod Walks
+pub mod Layout
