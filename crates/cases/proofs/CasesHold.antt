@@ -1,9 +1,8 @@
 -- The cases hold: each computed over `answer` and `after` themselves, all under one statement.
-use mathlib.Core.Path.{_≡_, refl, sym, ap, subst}
+use mathlib.Core.Path.{_≡_, refl, ap}
 use mathlib.Core.Bool.{Bool, true}
 use mathlib.Core.List.{List, [], _∷_}
 use Prim.Native.Nat.{ℕ}
-use Prim.{tt}
 use lib.ListN.{set}
 use Rattle.tables.specs.Layout.{place, taskRow, finishRow}
 use Rattle.tables.specs.Bytes.{part, over, write}
@@ -27,8 +26,8 @@ use Rattle.rules.specs.Deliver.{bookAbsent, discarded, waitsForRepair, held, lo
 use Rattle.rules.specs.Refusals.{wrongLength, noAction, unsound, notThere, wrongPlace, notReady, mustWait, noRoom, unwanted, firstOf, stepRefusals, refusals, answer}
 use Rattle.rules.specs.Step.{step, after}
 use Rattle.rules.specs.Quiet.{isRunning, runningTasks, isFull, messagesInFlight, calmBook, quiet}
-use Rattle.rules.specs.PrintedRun.{Run, took, lastLine, before, run, replayed}
-use Rattle.cases.specs.Cases.{Case, Shows, Holds, AllHold, cases, nothingMore, toRecord7, linesTo7, A7, toAsk, linesToAsk, edge-A, edge-begin, edge-end, edge-cancel, edge-held, edge-dropped, edge-again, edge-received, edge-kill, edge-slot}
+use Rattle.rules.specs.PrintedRun.{lastLine, before, run, replayed}
+use Rattle.cases.specs.Cases.{Case, Shows, Holds, AllHold, none-left, also, cases, nothingMore, toRecord7, linesTo7, A7, toAsk, linesToAsk, edge-A, edge-begin, edge-end, edge-cancel, edge-held, edge-dropped, edge-again, edge-received, edge-kill, edge-slot}
 use Rattle.cases.proofs.Runs.{sameLine, leads, rest, isNil, matches, matches-shows}
 
 -- a run of a schedule with every rule of document 01 opened
@@ -50,9 +49,8 @@ tables7 =
     (localLivePlace 1 1) (1 ∷ [])
 
 -- A through record 7, whatever follows
-to-record-7 : (s : List ℕ) → run 1 zeroTables (toRecord7 s)
-    ≡ before (took 1 9 0) (before (took 2 1 0) (before (took 3 4 0) (before (took 4 4 0) (before (took 5 4 0) (before (took 6 4 0) (before (took 7 4 0) (run 8 tables7 s)))))))
-unfolding computed run toRecord7 tables7
+to-record-7 : (s : List ℕ) → run 1 zeroTables (toRecord7 s) ≡ record { lines = linesTo7 (run 8 tables7 s .lines); tables = run 8 tables7 s .tables }
+unfolding computed run before toRecord7 linesTo7 tables7
 to-record-7 s = refl
 
 computed-shows : (n : ℕ) (t : List ℕ) (c : Case) → computed n t c ≡ true → Shows (run n t (c .schedule)) (c .lines) (c .facts)
@@ -64,11 +62,10 @@ unfolding replayed
 from-zero c h = computed-shows 1 zeroTables c h
 
 from-record-7 : (c : Case) → computed 8 tables7 c ≡ true → Holds (A7 c)
-unfolding replayed A7 linesTo7 before
+unfolding replayed A7
 from-record-7 c h =
     let shows = computed-shows 8 tables7 c h in
-    subst (λ (r : Run). Shows r (linesTo7 (c .lines)) (c .facts)) (sym (to-record-7 (c .schedule)))
-    (record { prints = ap linesTo7 (shows .prints); ends-so = shows .ends-so })
+    rw (to-record-7 (c .schedule)) (record { prints = ap linesTo7 (shows .prints); ends-so = shows .ends-so })
 
 A-computed : computed 8 tables7 edge-A ≡ true
 unfolding computed tables7 nothingMore edge-A
@@ -112,28 +109,14 @@ slot-computed = refl
 
 -- Those marked * are proved over the rules themselves, as a single list under a single statement.
 pub cases-hold : AllHold cases
-cases-hold = (
-  from-record-7 edge-A A-computed,
-  (
-    from-zero edge-begin begin-computed,
-    (
-      from-zero edge-end end-computed,
-      (
-        from-record-7 edge-cancel cancel-computed,
-        (
-          from-record-7 edge-held held-computed,
-          (
-            from-record-7 edge-dropped dropped-computed,
-            (
-              from-record-7 edge-again again-computed,
-              (
-                from-record-7 edge-received received-computed,
-                (from-zero edge-kill kill-computed, (from-zero edge-slot slot-computed, tt)),
-              ),
-            ),
-          ),
-        ),
-      ),
-    ),
-  ),
-)
+cases-hold =
+    also (from-record-7 edge-A A-computed)
+    (also (from-zero edge-begin begin-computed)
+    (also (from-zero edge-end end-computed)
+    (also (from-record-7 edge-cancel cancel-computed)
+    (also (from-record-7 edge-held held-computed)
+    (also (from-record-7 edge-dropped dropped-computed)
+    (also (from-record-7 edge-again again-computed)
+    (also (from-record-7 edge-received received-computed)
+    (also (from-zero edge-kill kill-computed)
+    (also (from-zero edge-slot slot-computed) none-left)))))))))

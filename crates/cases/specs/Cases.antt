@@ -3,7 +3,6 @@
 use mathlib.Core.Bool.{Bool, true}
 use mathlib.Core.List.{List, [], _∷_}
 use Prim.Native.Nat.{ℕ}
-use Prim.{Unit}
 use mathlib.Core.Path.{_≡_}
 use lib.Dec.{eqb}
 use Rattle.tables.specs.Bytes.{byte}
@@ -27,9 +26,9 @@ abbrev pub Holds : Case → Type 0
 Holds c = Shows (replayed (c .schedule)) (c .lines) (c .facts)
 
 -- the single statement: every case of a list holds
-abbrev pub AllHold : List Case → Type 0
-AllHold [] = Unit {0}
-AllHold (c ∷ cs) = Holds c × AllHold cs
+pub data AllHold : List Case → Type 0 where
+  none-left : AllHold []
+  also : {c : Case} {cs : List Case} → Holds c → AllHold cs → AllHold (c ∷ cs)
 
 -- a record before a schedule
 abbrev rec : ℕ → ℕ → ℕ → ℕ → List ℕ → List ℕ
