@@ -62,7 +62,7 @@ module _ (t r : List ℕ) (f k v j x : ℕ) (is-taken : answer t r ≡ 0) (kind 
   delivers = is-deliver r kind (taken t r is-taken .action)
 
   pub reply-slot : byte r 1 < 128
-  reply-slot = slot-there t (byte r 1) (subst (λ (a : Action). notThere t a ≡ false) delivers (taken t r is-taken .there))
+  reply-slot = slot-there t (byte r 1) (subst (λ (a : Action). notThere t a ≡ false) delivers (taken t r is-taken .own .there))
 
   replies : after t r ≡ deliverCountDropped t (byte r 1) f k v j x
   unfolding step deliverStep deliverMessage discarded delivered

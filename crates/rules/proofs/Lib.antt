@@ -1,3 +1,4 @@
 pub mod Unique
 pub mod Taken
+pub mod Joins
 pub mod Errors

@@ -11,49 +11,48 @@ use Rattle.tables.specs.Bytes.{byte}
 use Rattle.tables.specs.Walks.{someOf}
 use Rattle.tables.specs.Layout.{Whole}
 use Rattle.rules.specs.Action.{Action, unknown, deliver, only0, actionNamed, actionOf}
-use Rattle.rules.specs.Refusals.{wrongLength, noAction, unsound, notThere, wrongPlace, notReady, mustWait, noRoom, unwanted, firstOf, stepRefusals, refusals, answer}
+use Rattle.rules.specs.Refusals.{wrongLength, noAction, unsound, notThere, wrongPlace, notReady, mustWait, noRoom, unwanted, firstOf, stepRefusals, stepAnswer, refusals, answer}
+
+-- every test of a step's own refusals is false
+pub record StepTaken (t : List ℕ) (x : Action) : Type 0 where
+  pub there : notThere t x ≡ false
+  pub right-place : wrongPlace t x ≡ false
+  pub ready : notReady t x ≡ false
+  pub no-wait : mustWait t x ≡ false
+  pub room : noRoom t x ≡ false
+  pub wanted : unwanted t x ≡ false
 
 pub record Taken (t r : List ℕ) : Type 0 where
   pub right-length : wrongLength t r ≡ false
   pub action : noAction (actionOf r) ≡ false
   pub sound : unsound t (actionOf r) ≡ false
-  pub there : notThere t (actionOf r) ≡ false
-  pub right-place : wrongPlace t (actionOf r) ≡ false
-  pub ready : notReady t (actionOf r) ≡ false
-  pub no-wait : mustWait t (actionOf r) ≡ false
-  pub room : noRoom t (actionOf r) ≡ false
-  pub wanted : unwanted t (actionOf r) ≡ false
+  pub own : StepTaken t (actionOf r)
 
 -- a check that did not refuse
 past : (c : Bool) (n x : ℕ) → cond c (suc n) x ≡ 0 → (c ≡ false) × (x ≡ 0)
 past true n x h = absurd (omega arith)
 past false n x h = (refl, h)
 
+pub step-taken : (t : List ℕ) (x : Action) → stepAnswer t x ≡ 0 → StepTaken t x
+unfolding stepAnswer stepRefusals firstOf
+step-taken t x h =
+    let a = past _ 1 _ h in
+    let b = past _ 2 _ (a .1) in
+    let c = past _ 3 _ (b .1) in
+    let d = past _ 4 _ (c .1) in
+    let e = past _ 5 _ (d .1) in
+    let f = past _ 8 _ (e .1) in
+    record { there = a .0; right-place = b .0; ready = c .0; no-wait = d .0; room = e .0; wanted = f .0 }
+
 pub taken : (t r : List ℕ) → answer t r ≡ 0 → Taken t r
-unfolding answer refusals stepRefusals firstOf
+unfolding answer refusals firstOf stepAnswer
 taken t r h =
     let a = past _ 6 _ h in
     let b = past _ 0 _ (a .1) in
     let c = past _ 7 _ (b .1) in
-    let d = past _ 1 _ (c .1) in
-    let e = past _ 2 _ (d .1) in
-    let f = past _ 3 _ (e .1) in
-    let g = past _ 4 _ (f .1) in
-    let i = past _ 5 _ (g .1) in
-    let j = past _ 8 _ (i .1) in
-    record {
-      right-length = a .0;
-      action = b .0;
-      sound = c .0;
-      there = d .0;
-      right-place = e .0;
-      ready = f .0;
-      no-wait = g .0;
-      room = i .0;
-      wanted = j .0;
-    }
+    record { right-length = a .0; action = b .0; sound = c .0; own = step-taken t (actionOf r) (c .1) }
 
-neither : (a b : Bool) → someOf (a ∷ b ∷ []) ≡ false → (a ≡ false) × (b ≡ false)
+pub neither : (a b : Bool) → someOf (a ∷ b ∷ []) ≡ false → (a ≡ false) × (b ≡ false)
 unfolding someOf
 neither true b h = absurd (true≢false h)
 neither false true h = absurd (true≢false h)

@@ -1,7 +1,7 @@
 -- Session tables: every field of document 01 by its name, read at its place; the statuses by their names.
-use mathlib.Core.Bool.{Bool, true}
+use mathlib.Core.Bool.{Bool, true, cond}
 use mathlib.Core.List.{List, [], _∷_}
-use Prim.Native.Nat.{ℕ, zero, suc, _+_, _*_}
+use Prim.Native.Nat.{ℕ, _+_, _*_}
 use lib.Dec.{eqb, ltb, leb}
 use lib.ListN.{set}
 use Rattle.tables.specs.Bytes.{byte}
@@ -189,8 +189,8 @@ isMain t k = eqb (taskSent t k) 0
 
 -- Status 6: an opener or spawner about to run is blocked (0 is none).
 unfoldable pub mayRun : List ℕ → ℕ → Bool
-mayRun t k = elim k [ zero ↦ true | suc n ↦ eqb (taskStatus t (suc n)) blocked ]
+mayRun t k = cond (eqb k 0) true (eqb (taskStatus t k) blocked)
 
 -- it runs; 0 is none, and nothing runs
 unfoldable pub runs : List ℕ → ℕ → List ℕ
-runs t k = elim k [ zero ↦ t | suc n ↦ withTaskStatus t (suc n) running ]
+runs t k = cond (eqb k 0) t (withTaskStatus t k running)

@@ -146,6 +146,10 @@ stepRefusals t x =
     ∷ refuse (unwanted t x) 9
     ∷ []
 
+-- the answer where the lengths, the record and the ranges are right
+unfoldable pub stepAnswer : List ℕ → Action → ℕ
+stepAnswer t x = firstOf (stepRefusals t x)
+
 unfoldable pub refusals : List ℕ → List ℕ → List Check
 refusals t r =
     refuse (wrongLength t r) 7 ∷ refuse (noAction (actionOf r)) 1 ∷ refuse (unsound t (actionOf r)) 8 ∷ stepRefusals t (actionOf r)

@@ -13,7 +13,7 @@ use Rattle.rules.specs.Kill.{killStep}
 use Rattle.rules.specs.Adopt.{adoptStep}
 use Rattle.rules.specs.Cancel.{cancelStep}
 use Rattle.rules.specs.Ask.{askStep}
-use Rattle.rules.specs.Refusals.{answer}
+use Rattle.rules.specs.Refusals.{stepAnswer, answer}
 
 -- the tables that an action gives where it is taken
 unfoldable pub step : List ℕ → Action → List ℕ
@@ -27,6 +27,10 @@ step t (adopt f) = adoptStep t f
 step t (cancel f v) = cancelStep t f v
 step t (ask f v j) = askStep t f v j
 step t (begin n) = beginStep n
+
+-- the same where it is not taken: each refusal changes nothing
+unfoldable pub stepAfter : List ℕ → Action → List ℕ
+stepAfter t x = cond (eqb (stepAnswer t x) 0) (step t x) t
 
 -- Each refusal changes nothing; 0 is done.
 unfoldable pub after : List ℕ → List ℕ → List ℕ
