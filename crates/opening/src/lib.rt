@@ -7,6 +7,7 @@ ghost use Rattle.rules.specs.Begin.{beginStep};
 ghost use Rattle.rules.specs.Open.{opened};
 ghost use Rattle.rules.specs.Refusals.{noRoom, stepAnswer};
 ghost use Rattle.rules.specs.Step.{step, stepAfter};
+ghost use Rattle.rules.specs.Sent.{sentBy};
 ghost use Rattle.answers.specs.Answers.{answered};
 
 // The number that refuses a begin with n places, or 0.
@@ -35,7 +36,7 @@ fn begin_apply(t: &mut [u8], n: u8)
 // Begins a session of n places, or refuses and changes nothing.
 pub fn begin_session(t: &mut [u8], n: u32) -> Answer
     requires { ⌜ Whole (now t) ⌝ }
-    ensures { λ r. ⌜ (r ≡ answered (stepAnswer (now (t .entry)) (begin n)) 0) × (now (t .exit) ≡ stepAfter (now (t .entry)) (begin n)) ⌝ }
+    ensures { λ r. ⌜ (r ≡ answered (stepAnswer (now (t .entry)) (begin n)) (sentBy (now (t .entry)) (begin n))) × (now (t .exit) ≡ stepAfter (now (t .entry)) (begin n)) ⌝ }
 {
     let no = begin_refusal(t, n);
     if no != 0 {
@@ -103,7 +104,7 @@ fn open_apply(t: &mut [u8], k: u8)
 // Task k opens a finish, or is refused and nothing changes.
 pub fn open_finish(t: &mut [u8], k: u8) -> Answer
     requires { ⌜ Whole (now t) ⌝ }
-    ensures { λ r. ⌜ (r ≡ answered (stepAnswer (now (t .entry)) (openFinish k)) 0) × (now (t .exit) ≡ stepAfter (now (t .entry)) (openFinish k)) ⌝ }
+    ensures { λ r. ⌜ (r ≡ answered (stepAnswer (now (t .entry)) (openFinish k)) (sentBy (now (t .entry)) (openFinish k))) × (now (t .exit) ≡ stepAfter (now (t .entry)) (openFinish k)) ⌝ }
 {
     let no = open_refusal(t, k);
     if no != 0 {

@@ -15,6 +15,7 @@ pub mod Ask
 pub mod Deliver
 pub mod Refusals
 pub mod Step
+pub mod Sent
 pub mod Quiet
 pub mod PrintedRun
 pub mod Outcome

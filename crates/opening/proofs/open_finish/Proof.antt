@@ -1,3 +1,4 @@
+use Rattle.rules.specs.Sent.{sentBy}
 use Rattle.answers.proofs.Joins.{is-refused, is-done}
 use Rattle.rules.proofs.Joins.{unchanged, changed}
 use borrow.Author.Needs.{needs}
@@ -24,6 +25,7 @@ same-length-2 : tie.Need-same-length-2
 same-length-2 c = search needs
 
 returns-2 : tie.Need-returns-2
+unfolding sentBy
 returns-2 c = (search (needs, is-done), search (needs, changed))
 
 pub open-finish-spec : {M : Type 1} → statement M
