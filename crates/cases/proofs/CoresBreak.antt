@@ -41,14 +41,14 @@ was1 = refl
 stays : (zeroTables ≡ after zeroTables record1) → ⊥
 stays e = let z : byte zeroTables 0 ≡ 3 = ap (λ (u : List ℕ). byte u 0) e ∙ writes1 in omega (arith, z, was1)
 
-pub refuses-all-breaks : (n : ℕ) → n ≢ 0 → Meets (refusesAll n) zeroTables record1 → ⊥
-refuses-all-breaks n h o = h (answer-is zeroTables record1 o ∙ taken1)
+pub refuses-all-breaks : (number : List ℕ → List ℕ → ℕ) → number zeroTables record1 ≢ 0 → Meets (refusesAll number) zeroTables record1 → ⊥
+refuses-all-breaks number h o = h (answer-is zeroTables record1 o ∙ taken1)
 
 pub always-zero-breaks : Meets alwaysZero zeroTables record1 → ⊥
 always-zero-breaks o = stays (tables-are zeroTables record1 o)
 
-pub never-writes-breaks : Meets neverWrites zeroTables record1 → ⊥
-never-writes-breaks o = stays (tables-are zeroTables record1 o)
+pub never-writes-breaks : (says : List ℕ → List ℕ → ℕ) → Meets (neverWrites says) zeroTables record1 → ⊥
+never-writes-breaks says o = stays (tables-are zeroTables record1 o)
 
 -- Record 2, the spawn, is taken at the tables that record 1 gives and blocks task 1, which ran.
 abbrev pub record2 : List ℕ

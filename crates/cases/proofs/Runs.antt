@@ -8,7 +8,7 @@ use borrow.Author.Tests.{eqb-true}
 use Rattle.tables.specs.Walks.{every}
 use Rattle.rules.specs.Refusals.{answer}
 use Rattle.rules.specs.Step.{after}
-use Rattle.rules.specs.PrintedRun.{Line, took, short, ends, lastLine, before, ended, run}
+use Rattle.rules.specs.PrintedRun.{Line, took, short, ends, lastLine, before, atEnd, run}
 use Rattle.cases.specs.Cases.{Shows}
 
 unfoldable pub sameLine : Line → Line → Bool
@@ -81,7 +81,7 @@ nil-is [] h = refl
 nil-is (y ∷ l) h = absurd (false≢true h)
 
 pub matches-shows : (n : ℕ) (t s : List ℕ) (l : List Line) (facts : List ℕ → Bool) → matches n t s l facts ≡ true → Shows (run n t s) l facts
-unfolding matches run ended before
+unfolding matches run atEnd before
 matches-shows n t [] l facts h =
     let e = three (leads (lastLine t) l) (isNil (rest l)) (facts t) h in
     record { prints = ap (λ (r : List Line). lastLine t ∷ r) (nil-is (rest l) (e .1 .0)) ∙ leads-is (lastLine t) l (e .0); ends-so = e .1 .1 }

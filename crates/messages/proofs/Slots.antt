@@ -2,7 +2,7 @@
 use mathlib.Core.Path.{_≡_, refl, sym, ap, _∙_}
 use mathlib.Core.Bool.{Bool, true, false, cond}
 use mathlib.Core.List.{List, [], _∷_, _++_}
-use Prim.Native.Nat.{ℕ, zero, suc, _+_, _*_, _≤_, _<_}
+use Prim.Native.Nat.{ℕ, suc, _+_, _*_, _<_}
 use native.Mathlib.Nat.{add-zero}
 use native.Mathlib.Omega.{arith}
 use borrow.Author.Tests.{eq-eqb, ne-eqb, eqb-false}
@@ -73,6 +73,10 @@ found-slot t s e =
     let ne = eqb-false (lowestEmpty t) 128 (r .1) in
     let most = first-range isEmpty 16 128 0 (drop (slotPlace 0) t) .1 in
     (r .0, omega arith)
+
+pub found-room : (t : List ℕ) (s : ℕ) → foundAt (lowestEmpty t) ≡ Found.At s → slotsFull t ≡ false
+unfolding foundAt slotsFull
+found-room t s e = told (lowestEmpty t) s (eqb (lowestEmpty t) 128) refl e .1
 
 -- no slot found: all are full
 pub found-full : (t : List ℕ) → foundAt (lowestEmpty t) ≡ Found.Nothing → slotsFull t ≡ true

@@ -1,6 +1,6 @@
 // The 128 slots: the lowest empty one, a message read and written, and what is in flight; with it, the tasks that run.
 ghost use mathlib.Core.Path.{_≡_};
-ghost use Prim.Native.Nat.{_+_, _*_, _≤_, _<_};
+ghost use Prim.Native.Nat.{_+_, _≤_, _<_};
 ghost use lib.ListN.{length, drop};
 ghost use Rattle.tables.specs.Bytes.{byte, part, write};
 ghost use Rattle.tables.specs.Bits.{digit};
@@ -14,6 +14,13 @@ use tables::Tables;
 pub enum Found {
     At(usize),
     Nothing,
+}
+
+// A byte as an index.
+fn wide(x: u8) -> usize
+    ensures { λ r. ⌜ (r ≡ x) × (r < 256) ⌝ }
+{
+    x as usize
 }
 
 // Tag 0 is empty.
@@ -166,11 +173,4 @@ pub fn running_tasks(t: &[u8]) -> u32
         j += 1;
     }
     c
-}
-
-// A byte as an index.
-fn wide(x: u8) -> usize
-    ensures { λ r. ⌜ (r ≡ x) × (r < 256) ⌝ }
-{
-    x as usize
 }

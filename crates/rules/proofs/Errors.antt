@@ -1,4 +1,5 @@
--- Errors that look right, each as a law that the rules keep: what a change of one operand would break.
+-- Laws that one wrong operand in the rules would break: a pair asked twice, a cancel before the adopt, a held or a dead
+-- place's report taken, a dropped count other than sent less received, a begin with 9 places.
 use mathlib.Core.Path.{_≡_, refl, ap, _∙_, subst}
 use mathlib.Core.Bool.{Bool, true, false, cond}
 use mathlib.Core.List.{List, [], _∷_}
@@ -12,7 +13,7 @@ use Rattle.tables.specs.Bits.{marked, withMark}
 use Rattle.tables.specs.Walks.{every, someOf}
 use Rattle.tables.specs.Layout.{Whole, place, slotRow}
 use Rattle.tables.proofs.Writes.{byte-write-in, length-write}
-use Rattle.rules.specs.Fields.{deadMask, adoptDue, askedMarks, live, received, denyPlace, denyMask}
+use Rattle.rules.specs.Fields.{deadMask, dead, adoptDue, askedMarks, live, received, denyPlace, denyMask}
 use Rattle.rules.specs.Action.{Action, deliver, cancel, ask, begin, actionOf}
 use Rattle.rules.specs.Books.{bookOf, column, underRepair}
 use Rattle.rules.specs.Messages.{report, countDropped, dropped, slotPlace, messageAt, message, bytesOf, send}
@@ -51,7 +52,12 @@ unfolding mustWait held waitsForRepair
 report-held t s f v counts x d u =
     ap (held t) x ∙ ap (λ (c : Bool). cond c false (underRepair (deadMask t) (bookOf t f))) d ∙ u
 
--- Begin outside 2 to 8 is refused (2).
+-- Applying a dead place's report: it is discarded.
+pub dead-report-discarded : (t : List ℕ) (f v : ℕ) (counts : List ℕ) → dead t v ≡ true → discarded t (report f v counts) ≡ true
+unfolding discarded
+dead-report-discarded t f v counts h = ap (λ (c : Bool). someOf (c ∷ bookAbsent t f ∷ [])) h ∙ some-head _
+
+-- Begin with 9 places is refused (2).
 pub nine-refused : (t : List ℕ) → notThere t (begin 9) ≡ true
 unfolding notThere every
 nine-refused t = refl

@@ -1,4 +1,5 @@
--- The steps, deliver, by tag: what is discarded, what is held, what is wanted, and what each message does.
+-- The steps, deliver, by tag: what is discarded, held and wanted, and what each message does. A message made by a deliver,
+-- closing test included, takes the delivered slot s; replies 4, 5, 6 and 11 copy finish, task, from and to.
 use mathlib.Core.Bool.{Bool, true, false, cond, not}
 use mathlib.Core.List.{List, [], _∷_}
 use Prim.Native.Nat.{ℕ, zero, suc, _+_, _-_, _*_, _/_, _%_}

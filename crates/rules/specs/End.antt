@@ -48,7 +48,7 @@ endOther t k f p = cond (eqb (localLive t f p) 1) (endLast t k f p (lowestEmpty 
 unfoldable pub endStep : List ℕ → ℕ → List ℕ
 endStep t k = cond (isMain t k) (endMain t k (taskFinish t k)) (endOther t k (taskFinish t k) (taskAt t k))
 
--- One more message is needed: by a main task where its finish is published, by another where its place has no other.
+-- One more message is needed: by a main task where its finish is published, by another where its local live count is 1.
 unfoldable pub endSends : List ℕ → ℕ → Bool
 endSends t k =
     cond (isMain t k) (not (eqb (isPublished t (taskFinish t k)) 0)) (eqb (localLive t (taskFinish t k) (taskAt t k)) 1)

@@ -1,4 +1,4 @@
--- Session tables: every field of document 01 by its name, read at its place; the statuses by their names.
+-- Session tables: the fields of row 0, tasks, finishes, store books and local books by name; the statuses by name.
 use mathlib.Core.Bool.{Bool, true, cond}
 use mathlib.Core.List.{List, [], _∷_}
 use Prim.Native.Nat.{ℕ, _+_, _*_}
@@ -87,6 +87,9 @@ finishStatus t f = byte t (place (finishRow f) 3)
 
 abbrev pub isPublished : List ℕ → ℕ → ℕ
 isPublished t f = byte t (place (finishRow f) 4)
+
+abbrev pub mainTask : List ℕ → ℕ → ℕ
+mainTask t f = byte t (place (finishRow f) 5)
 
 -- Status: 1 active, 2 publishing, 3 waits for release, 4 released, 5 lost.
 abbrev pub active : ℕ

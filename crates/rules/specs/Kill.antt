@@ -30,11 +30,11 @@ losesFinish p home status = every (eqb home p ∷ not (eqb status released) ∷ 
 unfoldable pub killFinish : ℕ → List ℕ → ℕ → List ℕ
 killFinish p m f = set m 3 (cond (losesFinish p (byte m 0) (byte m 3)) finishLost (byte m 3))
 
--- Every book with a live count in its column has adopt due.
+-- Every present book with a live count in its column has adopt due.
 unfoldable pub killBook : ℕ → List ℕ → ℕ → List ℕ
 killBook p m f = set m 2 (cond (every (eqb (byte m 0) 1 ∷ not (eqb (column m p) 0) ∷ [])) 1 (byte m 2))
 
--- Its local books become 0; local book 8(f − 1) + p is that of f at p.
+-- Its local books become 0, those of all 32 finishes; local book 8(f − 1) + p is that of f at p.
 unfoldable pub killLocal : ℕ → List ℕ → ℕ → List ℕ
 killLocal p m y = cond (eqb (y % 8) p) (replicate 24 0) m
 
@@ -42,6 +42,7 @@ killLocal p m y = cond (eqb (y % 8) p) (replicate 24 0) m
 unfoldable pub killSlot : List ℕ → ℕ → List ℕ → ℕ → List ℕ
 killSlot t p m s = cond (eqb (goesTo t (messageIn m)) p) (replicate 16 0) m
 
+-- The place is dead from now on (bit p); only made tasks and finishes change status.
 unfoldable pub killStep : List ℕ → ℕ → List ℕ
 killStep t p =
     changeParts (killTask p) 8 1 (tasksMade t) (place (taskRow 1) 0)

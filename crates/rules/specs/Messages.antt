@@ -10,7 +10,8 @@ use Rattle.tables.specs.Layout.{place, slotRow}
 use Rattle.rules.specs.Fields.{home}
 
 -- Message fields: every tag names its finish (9: the parent, with the ghost in number). 1 and 2 name the waiting task;
--- 3 to 6 the task, its from and its at as to; 7 has the reporter as from; 10 and 11 the dead place as from, the live one as to.
+-- 3 to 6 the task, its from and its at as to; 7 has the reporter as from; 10 and 11 the dead place as from, the live one as to
+-- (their task is 0 from an ask on: reply 11 copies it byte for byte).
 pub data Message : Type 0 where
   none : Message
   publish : (finish task : ℕ) → Message
@@ -84,7 +85,7 @@ send t s x = write t (slotPlace s) (bytesOf x)
 abbrev pub store : ℕ
 store = 8
 
--- Deliver, by tag: goes to.
+-- Deliver, by tag: goes to. A home is read in the row of the message's finish; from and to are the message's own.
 unfoldable pub goesTo : List ℕ → Message → ℕ
 goesTo t none = store
 goesTo t (publish f k) = store

@@ -26,15 +26,15 @@ pub record Run : Type 0 where
 unfoldable pub before : Line → Run → Run
 before x r = record { lines = x ∷ r .lines; tables = r .tables }
 
-unfoldable pub ended : List ℕ → Run
-ended t = record { lines = lastLine t ∷ []; tables = t }
+unfoldable pub atEnd : List ℕ → Run
+atEnd t = record { lines = lastLine t ∷ []; tables = t }
 
 -- For each record it prints record number from 1, kind, answer; a last incomplete record prints its number and `short`.
 unfoldable pub run : ℕ → List ℕ → List ℕ → Run
-run n t [] = ended t
-run n t (k ∷ []) = before (short n) (ended t)
-run n t (k ∷ a ∷ []) = before (short n) (ended t)
-run n t (k ∷ a ∷ b ∷ []) = before (short n) (ended t)
+run n t [] = atEnd t
+run n t (k ∷ []) = before (short n) (atEnd t)
+run n t (k ∷ a ∷ []) = before (short n) (atEnd t)
+run n t (k ∷ a ∷ b ∷ []) = before (short n) (atEnd t)
 run n t (k ∷ a ∷ b ∷ c ∷ s) = before (took n k (answer t (k ∷ a ∷ b ∷ c ∷ []))) (run (n + 1) (after t (k ∷ a ∷ b ∷ c ∷ [])) s)
 
 -- The replay program starts with zero tables.

@@ -29,7 +29,7 @@ messagesInFlight t = countParts isFull 16 0 128 (drop (slotPlace 0) t)
 unfoldable pub calmBook : ℕ → ℕ → List ℕ → ℕ → Bool
 calmBook ps d m f = cond (eqb (byte m 0) 0) true (every (not (underRepair d (take 144 m)) ∷ not (owes ps d (take 144 m)) ∷ []))
 
--- A quiet session: no message in flight, no book under repair, no count owed.
+-- Demand 3's quiet session: no message in flight, no book under repair, no count owed.
 unfoldable pub quiet : List ℕ → Bool
 quiet t =
     every (eqb (messagesInFlight t) 0 ∷ everyPart (calmBook (places t) (deadMask t)) 144 1 32 (drop (bookPlace 1) t) ∷ [])

@@ -135,7 +135,7 @@ unfoldable pub firstOf : List Check → ℕ
 firstOf [] = 0
 firstOf (refuse c n ∷ l) = cond c n (firstOf l)
 
--- the numbers that depend on the tables' contents
+-- the refusals after 7, 1 and 8, in their order
 unfoldable pub stepRefusals : List ℕ → Action → List Check
 stepRefusals t x =
     refuse (notThere t x) 2

@@ -21,10 +21,11 @@ unfoldable pub taskFits : ℕ → ℕ → ℕ → ℕ → ℕ → ℕ → ℕ �
 taskFits ps fs k from at finish status sent maker =
     every (ltb from ps ∷ ltb at ps ∷ leb 1 finish ∷ leb finish fs ∷ leb 1 status ∷ leb status 8 ∷ leb sent 1 ∷ ltb maker k ∷ [])
 
--- A finish's parent below its own number, its opener below its main task; made numbers where a task is named.
+-- Every place below the place count; a finish's parent below its own number, its opener below its main task; made numbers
+-- where a task is named; statuses and marks (0 or 1) as listed.
 unfoldable pub finishFits : ℕ → ℕ → ℕ → ℕ → ℕ → ℕ → ℕ → ℕ → ℕ → Bool
-finishFits ps ts f home opener parent status shown main =
-    every (ltb home ps ∷ ltb opener main ∷ ltb parent f ∷ leb 1 status ∷ leb status 5 ∷ leb shown 1 ∷ leb 1 main ∷ leb main ts ∷ [])
+finishFits ps ts f home opener parent status publishedMark main =
+    every (ltb home ps ∷ ltb opener main ∷ ltb parent f ∷ leb 1 status ∷ leb status 5 ∷ leb publishedMark 1 ∷ leb 1 main ∷ leb main ts ∷ [])
 
 -- An adopted book's parent not 0.
 unfoldable pub parentFits : ℕ → ℕ → Bool

@@ -11,17 +11,17 @@ use Rattle.rules.specs.Refusals.{answer}
 use Rattle.rules.specs.Step.{after}
 use Rattle.rules.specs.Outcome.{Core}
 
--- A core that refuses everything, by number n.
-abbrev pub refusesAll : ℕ → Core
-refusesAll n = record { says = λ t r. n; leaves = λ t r. t }
+-- A core that refuses everything, by whatever numbers.
+abbrev pub refusesAll : (List ℕ → List ℕ → ℕ) → Core
+refusesAll number = record { says = number; leaves = λ t r. t }
 
 -- One that always says 0, and does nothing.
 abbrev pub alwaysZero : Core
 alwaysZero = record { says = λ t r. 0; leaves = λ t r. t }
 
--- One that leaves the tables as they were, whatever it rightly answers.
-abbrev pub neverWrites : Core
-neverWrites = record { says = answer; leaves = λ t r. t }
+-- One that leaves the tables as they were, whatever it answers.
+abbrev pub neverWrites : (List ℕ → List ℕ → ℕ) → Core
+neverWrites says = record { says = says; leaves = λ t r. t }
 
 -- One that does real work at begin and afterwards only answers 0.
 abbrev pub onlyBegins : Core

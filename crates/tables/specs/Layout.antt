@@ -1,4 +1,4 @@
--- Row counts, first rows and limits of the session tables: 1,888 rows of 8 bytes, no header.
+-- Where the rows of the session tables stand: 1,888 rows of 8 bytes, 15,104 in all, no header.
 use mathlib.Core.List.{List}
 use mathlib.Core.Path.{_≡_}
 use Prim.Native.Nat.{ℕ, _+_, _-_, _*_}

@@ -1,0 +1,2 @@
+pub mod Orphans
+pub mod Marks

@@ -1,0 +1,4 @@
+pub mod Sums
+pub mod Below
+pub mod Columns
+pub mod New
