@@ -4,7 +4,7 @@ ghost use mathlib.Core.Path.{_≡_};
 ghost use Prim.Native.Nat.{_≤_, _<_};
 ghost use lib.Dec.{eqb};
 ghost use Rattle.tables.specs.Layout.{Whole};
-ghost use Rattle.rules.specs.Fields.{dead, home, isAdopted, bookParent};
+ghost use Rattle.rules.specs.Fields.{isAdopted, bookParent};
 ghost use Rattle.rules.specs.Books.{bookOf};
 ghost use Rattle.rules.specs.Messages.{release, ghostEnded, send};
 ghost use Rattle.rules.specs.Closing.{closes, withoutBook, closedBook, closingTest};
@@ -17,14 +17,6 @@ fn is_adopted(t: &[u8], f: u8) -> bool
     ensures { λ r. ⌜ r ≡ eqb (isAdopted (now (t .entry)) f) 1 ⌝ }
 {
     counts::book_byte(t, f, 3) == 1
-}
-
-// The home of f is dead.
-fn home_dead(t: &[u8], f: u8) -> bool
-    requires { ⌜ Whole (now t) ⌝ }
-    ensures { λ r. ⌜ r ≡ dead (now (t .entry)) (home (now (t .entry)) f) ⌝ }
-{
-    fields::is_dead(t, fields::finish_byte(t, f, 0))
 }
 
 // The book of f closes.
@@ -76,7 +68,7 @@ fn close_book(t: &mut [u8], f: u8, s: usize) -> u8
         end_ghost(t, f, s);
         return 9;
     }
-    if home_dead(t, f) {
+    if fields::home_dead(t, f) {
         clear_rows(t, f);
         return 0;
     }

@@ -5,7 +5,7 @@ ghost use lib.Dec.{eqb};
 ghost use lib.ListN.{set};
 ghost use Rattle.tables.specs.Bytes.{byte};
 ghost use Rattle.tables.specs.Layout.{Whole, place, taskRow, finishRow};
-ghost use Rattle.rules.specs.Fields.{taskStatus, dead, taskMade, finishMade, inSession, isMain, mayRun, runs, withTaskStatus, withFinishStatus};
+ghost use Rattle.rules.specs.Fields.{taskStatus, home, dead, taskMade, finishMade, inSession, isMain, mayRun, runs, withTaskStatus, withFinishStatus};
 
 pub fn wide(x: u8) -> usize
     ensures { λ r. ⌜ (r ≡ x) × (r < 256) ⌝ }
@@ -71,6 +71,14 @@ pub fn is_dead(t: &[u8], p: u8) -> bool
     ensures { λ r. ⌜ r ≡ dead (now (t .entry)) p ⌝ }
 {
     tables::is_marked(t[1], p)
+}
+
+// The home of finish f is dead.
+pub fn home_dead(t: &[u8], f: u8) -> bool
+    requires { ⌜ Whole (now t) ⌝ }
+    ensures { λ r. ⌜ r ≡ dead (now (t .entry)) (home (now (t .entry)) f) ⌝ }
+{
+    is_dead(t, finish_byte(t, f, 0))
 }
 
 // Task k has this status.

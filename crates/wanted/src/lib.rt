@@ -4,19 +4,11 @@ ghost use mathlib.Core.Path.{_≡_};
 ghost use Prim.Native.Nat.{_≤_, _<_};
 ghost use lib.Dec.{eqb, leb};
 ghost use Rattle.tables.specs.Layout.{Whole};
-ghost use Rattle.rules.specs.Fields.{dead, taskMaker, home, opener, finishStatus, live, sentCount, received, localLive, mayRun, deadMask};
+ghost use Rattle.rules.specs.Fields.{taskMaker, opener, finishStatus, live, sentCount, received, localLive, mayRun, deadMask};
 ghost use Rattle.rules.specs.Books.{bookOf, underRepair};
 ghost use Rattle.rules.specs.Deliver.{lowers};
 ghost use Rattle.rules.specs.Messages.{publish, published, transit, granted, task, report, release, ghostEnded, countDropped, dropped};
 ghost use Rattle.wanted.specs.Says.{deliverSays};
-
-// The home of f is dead.
-fn home_dead(t: &[u8], f: u8) -> bool
-    requires { ⌜ Whole (now t) ⌝ }
-    ensures { λ r. ⌜ r ≡ dead (now (t .entry)) (home (now (t .entry)) f) ⌝ }
-{
-    fields::is_dead(t, fields::finish_byte(t, f, 0))
-}
 
 // Finish f has this status.
 fn finish_has(t: &[u8], f: u8, status: u8) -> bool
@@ -120,7 +112,7 @@ fn publish_says(t: &[u8], f: u8, k: u8) -> u8
     requires { ⌜ (1 ≤ f) × (f ≤ 32) ⌝ }
     ensures { λ r. ⌜ r ≡ deliverSays (now (t .entry)) (publish f k) ⌝ }
 {
-    if home_dead(t, f) {
+    if fields::home_dead(t, f) {
         return 0;
     }
     if finish_has(t, f, 2) {} else {
@@ -137,7 +129,7 @@ fn published_says(t: &[u8], f: u8, k: u8) -> u8
     requires { ⌜ Whole (now t) ⌝ }
     ensures { λ r. ⌜ r ≡ deliverSays (now (t .entry)) (published f k) ⌝ }
 {
-    if home_dead(t, f) {
+    if fields::home_dead(t, f) {
         return 9;
     }
     if finish_has(t, f, 2) {} else {
@@ -243,7 +235,7 @@ fn release_says(t: &[u8], f: u8) -> u8
     requires { ⌜ Whole (now t) ⌝ }
     ensures { λ r. ⌜ r ≡ deliverSays (now (t .entry)) (release f) ⌝ }
 {
-    if home_dead(t, f) {
+    if fields::home_dead(t, f) {
         return 9;
     }
     if finish_has(t, f, 3) {} else {

@@ -16,7 +16,7 @@ same-length : tie.Need-same-length
 same-length c = search needs
 
 returns : tie.Need-returns
-returns c = search needs
+returns c = rw (c .before .before .clear-book .ensures, c .before .before .before .wide .ensures .0)
 
 pub clear-rows-spec : {M : Type 1} → statement M
 clear-rows-spec = tie.close (tie.spec wide-requires clear-book-requires same-length returns)

@@ -1,3 +1,7 @@
+use mathlib.Core.Path.{refl}
+use Rattle.tables.proofs.Tests.{was-true, was-false}
+use Rattle.rules.specs.Closing.{closingTest}
+use Rattle.rules.specs.Sent.{closingSent}
 use borrow.Author.Needs.{needs}
 use Rattle.closing.proofs.close.Statement.{statement}
 use Rattle.closing.proofs.close.Tie as tie
@@ -16,13 +20,19 @@ same-length : tie.Need-same-length
 same-length c = search needs
 
 returns : tie.Need-returns
-returns c = search needs
+unfolding closingSent closingTest
+returns c = 
+    (was-true _ _ _ _ _ (c .before .before .before .before .before .does-close .ensures) (c .before .before .before .before .if1 .taken) (c .before .before .close-book .ensures .0),
+    was-true _ _ _ _ _ (c .before .before .before .before .before .does-close .ensures) (c .before .before .before .before .if1 .taken) (c .before .before .close-book .ensures .1))
 
 same-length-2 : tie.Need-same-length-2
 same-length-2 c = search needs
 
 returns-2 : tie.Need-returns-2
-returns-2 c = search needs
+unfolding closingSent closingTest
+returns-2 c = 
+    (was-false _ _ _ _ _ (c .before .does-close .ensures) (c .if1 .left) refl,
+    was-false _ _ _ _ _ (c .before .does-close .ensures) (c .if1 .left) refl)
 
 pub close-spec : {M : Type 1} → statement M
 close-spec =

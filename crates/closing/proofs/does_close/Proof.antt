@@ -13,7 +13,7 @@ book-closes-requires : tie.Need-book-closes-requires
 book-closes-requires c κs = search needs
 
 returns : tie.Need-returns
-returns c = search needs
+returns c = rw (c .before .wide .ensures .0) at (c .book-closes .ensures)
 
 pub does-close-spec : {M : Type 1} → statement M
 does-close-spec = tie.close (tie.spec wide-requires book-closes-requires returns)

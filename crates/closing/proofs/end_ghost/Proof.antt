@@ -1,3 +1,4 @@
+use Rattle.rules.specs.Messages.{message, bytesOf, send}
 use borrow.Author.Needs.{needs}
 use Rattle.closing.proofs.end_ghost.Statement.{statement}
 use Rattle.closing.proofs.end_ghost.Tie as tie
@@ -20,7 +21,12 @@ same-length : tie.Need-same-length
 same-length c = search needs
 
 returns : tie.Need-returns
-returns c = search needs
+unfolding send bytesOf
+returns c = 
+    rw
+    (c .before .before .put-message .ensures,
+    c .before .before .before .before .before .before .clear-rows .ensures,
+    c .before .before .before .before .before .before .before .before .book-byte .ensures)
 
 pub end-ghost-spec : {M : Type 1} → statement M
 end-ghost-spec =

@@ -9,7 +9,7 @@ book-byte-requires : tie.Need-book-byte-requires
 book-byte-requires c κs = search needs
 
 returns : tie.Need-returns
-returns c = search needs
+returns c = rw (c .book-byte .ensures)
 
 pub is-adopted-spec : {M : Type 1} → statement M
 is-adopted-spec = tie.close (tie.spec book-byte-requires returns)

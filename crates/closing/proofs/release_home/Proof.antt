@@ -1,3 +1,4 @@
+use Rattle.rules.specs.Messages.{message, bytesOf, send}
 use borrow.Author.Needs.{needs}
 use Rattle.closing.proofs.release_home.Statement.{statement}
 use Rattle.closing.proofs.release_home.Tie as tie
@@ -16,7 +17,11 @@ same-length : tie.Need-same-length
 same-length c = search needs
 
 returns : tie.Need-returns
-returns c = search needs
+unfolding send bytesOf
+returns c = 
+    rw
+    (c .before .before .put-message .ensures,
+    c .before .before .before .before .before .before .clear-rows .ensures)
 
 pub release-home-spec : {M : Type 1} → statement M
 release-home-spec =

@@ -8,7 +8,7 @@ use Rattle.wanted.proofs.publish_says.Reads as reads
 use Rattle.wanted.proofs.publish_says.Lts as lts
 use Rattle.counts.proofs.book_absent.Reads as book-absent-reads
 use Rattle.wanted.proofs.finish_has.Reads as finish-has-reads
-use Rattle.wanted.proofs.home_dead.Reads as home-dead-reads
+use Rattle.fields.proofs.home_dead.Reads as home-dead-reads
 
 home-dead-requires : tie.Need-home-dead-requires
 home-dead-requires c κs = search needs

@@ -7,7 +7,7 @@ use Rattle.wanted.proofs.release_says.Tie as tie
 use Rattle.wanted.proofs.release_says.Reads as reads
 use Rattle.wanted.proofs.release_says.Lts as lts
 use Rattle.wanted.proofs.finish_has.Reads as finish-has-reads
-use Rattle.wanted.proofs.home_dead.Reads as home-dead-reads
+use Rattle.fields.proofs.home_dead.Reads as home-dead-reads
 use Rattle.wanted.proofs.opener_may_run.Reads as opener-may-run-reads
 
 home-dead-requires : tie.Need-home-dead-requires

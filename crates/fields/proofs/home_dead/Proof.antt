@@ -1,10 +1,10 @@
 use borrow.Author.Needs.{needs}
-use Rattle.wanted.proofs.home_dead.Statement.{statement}
-use Rattle.wanted.proofs.home_dead.Tie as tie
-use Rattle.wanted.proofs.home_dead.Reads as reads
-use Rattle.wanted.proofs.home_dead.Lts as lts
+use Rattle.fields.proofs.home_dead.Statement.{statement}
+use Rattle.fields.proofs.home_dead.Tie as tie
+use Rattle.fields.proofs.home_dead.Reads as reads
+use Rattle.fields.proofs.home_dead.Lts as lts
 use Rattle.fields.proofs.finish_byte.Reads as finish-byte-reads
 use Rattle.fields.proofs.is_dead.Reads as is-dead-reads
 
 finish-byte-requires : tie.Need-finish-byte-requires
 finish-byte-requires c κs = search needs
