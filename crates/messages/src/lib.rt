@@ -1,11 +1,12 @@
 // The 128 slots: the lowest empty one, a message read and written, and what is in flight; with it, the tasks that run.
+ghost use mathlib.Core.Bool.{false};
 ghost use mathlib.Core.Path.{_≡_};
 ghost use Prim.Native.Nat.{_+_, _≤_, _<_};
 ghost use lib.ListN.{length, drop};
 ghost use Rattle.tables.specs.Bytes.{byte, part, write};
 ghost use Rattle.tables.specs.Bits.{digit};
 ghost use Rattle.tables.specs.Layout.{Whole};
-ghost use Rattle.rules.specs.Messages.{none, report, message, noCounts, slotPlace, fromSlot, send, isEmpty, lowestEmpty};
+ghost use Rattle.rules.specs.Messages.{none, report, message, noCounts, slotPlace, fromSlot, send, isEmpty, lowestEmpty, slotsFull};
 ghost use Rattle.rules.specs.Quiet.{isRunning, runningTasks, isFull, messagesInFlight};
 ghost use Rattle.messages.specs.Found.{foundAt};
 use tables::Tables;
@@ -173,4 +174,27 @@ pub fn running_tasks(t: &[u8]) -> u32
         j += 1;
     }
     c
+}
+
+// All 128 slots are full.
+pub fn slots_full(t: &[u8]) -> bool
+    requires { ⌜ Whole (now t) ⌝ }
+    ensures { λ r. ⌜ r ≡ slotsFull (now (t .entry)) ⌝ }
+{
+    match lowest_empty(t) {
+        Found::At(_) => false,
+        Found::Nothing => true,
+    }
+}
+
+// The lowest empty slot, where there is one.
+pub fn free_slot(t: &[u8]) -> usize
+    requires { ⌜ Whole (now t) ⌝ }
+    requires { ⌜ slotsFull (now t) ≡ false ⌝ }
+    ensures { λ r. ⌜ (lowestEmpty (now (t .entry)) ≡ r) × (r < 128) ⌝ }
+{
+    match lowest_empty(t) {
+        Found::At(s) => s,
+        Found::Nothing => 0,
+    }
 }
