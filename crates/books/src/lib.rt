@@ -2,7 +2,7 @@
 ghost use mathlib.Core.Path.{_≡_};
 ghost use Prim.Native.Nat.{_≤_, _<_};
 ghost use Rattle.tables.specs.Layout.{Whole};
-ghost use Rattle.rules.specs.Fields.{deadMask, dead, present, parent, finishesMade};
+ghost use Rattle.rules.specs.Fields.{deadMask, present, parent, finishesMade};
 ghost use Rattle.rules.specs.Books.{bookOf, withBook, column, loweredColumn, underRepair};
 ghost use Rattle.rules.specs.Closing.{closes, withoutBook};
 ghost use Rattle.rules.specs.Cancel.{cancelled};
@@ -77,6 +77,15 @@ pub fn in_repair(t: &[u8], f: usize) -> bool
     square::under_repair(&t[a..e], d)
 }
 
+// The same for a finish number as it stands in the tables.
+pub fn repairing(t: &[u8], f: u8) -> bool
+    requires { ⌜ Whole (now t) ⌝ }
+    requires { ⌜ (1 ≤ f) × (f ≤ 32) ⌝ }
+    ensures { λ r. ⌜ r ≡ underRepair (deadMask (now (t .entry))) (bookOf (now (t .entry)) f) ⌝ }
+{
+    in_repair(t, f as usize)
+}
+
 // The live counts of the book of f at place v, summed.
 pub fn book_column(t: &[u8], f: usize, v: usize) -> u32
     requires { ⌜ Whole (now t) ⌝ }
@@ -97,14 +106,6 @@ pub fn book_lowers(t: &[u8], f: usize, v: usize, counts: [u8; 8]) -> bool
     let a = Tables::book(f);
     let e = a + 144;
     square::lowers(&t[a..e], v, counts)
-}
-
-// Place p is dead.
-pub fn is_dead(t: &[u8], p: u8) -> bool
-    requires { ⌜ Whole (now t) ⌝ }
-    ensures { λ r. ⌜ r ≡ dead (now (t .entry)) p ⌝ }
-{
-    tables::is_marked(t[1], p)
 }
 
 fn present_of(t: &[u8], f: u8) -> u8

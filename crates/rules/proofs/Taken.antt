@@ -58,7 +58,7 @@ neither true b h = absurd (true≢false h)
 neither false true h = absurd (true≢false h)
 neither false false h = (refl, refl)
 
-not-not : (a : Bool) → not a ≡ false → a ≡ true
+pub not-not : (a : Bool) → not a ≡ false → a ≡ true
 not-not true h = refl
 not-not false h = absurd (true≢false h)
 

@@ -4,8 +4,8 @@ ghost use mathlib.Core.Path.{_≡_};
 ghost use Prim.Native.Nat.{_≤_, _<_};
 ghost use lib.Dec.{eqb, leb};
 ghost use Rattle.tables.specs.Layout.{Whole};
-ghost use Rattle.rules.specs.Fields.{taskMaker, opener, finishStatus, live, sentCount, received, localLive, mayRun, deadMask};
-ghost use Rattle.rules.specs.Books.{bookOf, underRepair};
+ghost use Rattle.rules.specs.Fields.{taskMaker, opener, finishStatus, live, sentCount, received, localLive, mayRun};
+ghost use Rattle.rules.specs.Books.{bookOf};
 ghost use Rattle.rules.specs.Deliver.{lowers};
 ghost use Rattle.rules.specs.Messages.{publish, published, transit, granted, task, report, release, ghostEnded, countDropped, dropped};
 ghost use Rattle.wanted.specs.Says.{deliverSays};
@@ -88,15 +88,6 @@ fn live_covers(t: &[u8], f: u8, i: u8, j: u8, n: u8) -> bool
     n <= counts::live_at(t, f, i, j)
 }
 
-// The book of f is under repair.
-fn repairing(t: &[u8], f: u8) -> bool
-    requires { ⌜ Whole (now t) ⌝ }
-    requires { ⌜ (1 ≤ f) × (f ≤ 32) ⌝ }
-    ensures { λ r. ⌜ r ≡ underRepair (deadMask (now (t .entry))) (bookOf (now (t .entry)) f) ⌝ }
-{
-    books::in_repair(t, wide(f))
-}
-
 // The counts lower column v of the book of f.
 fn report_fits(t: &[u8], f: u8, v: u8, cs: [u8; 8]) -> bool
     requires { ⌜ Whole (now t) ⌝ }
@@ -153,7 +144,7 @@ fn transit_says(t: &[u8], f: u8, k: u8, v: u8, j: u8) -> u8
     if counts::book_absent(t, f) {
         return 0;
     }
-    if repairing(t, f) {
+    if books::repairing(t, f) {
         return 5;
     }
     if fields::is_dead(t, j) {
@@ -221,7 +212,7 @@ fn report_says(t: &[u8], f: u8, v: u8, cs: [u8; 8]) -> u8
     if counts::book_absent(t, f) {
         return 0;
     }
-    if repairing(t, f) {
+    if books::repairing(t, f) {
         return 5;
     }
     if report_fits(t, f, v, cs) {} else {
@@ -256,7 +247,7 @@ fn ghost_ended_says(t: &[u8], f: u8, g: u8) -> u8
     if counts::book_absent(t, f) {
         return 0;
     }
-    if repairing(t, f) {
+    if books::repairing(t, f) {
         return 5;
     }
     0

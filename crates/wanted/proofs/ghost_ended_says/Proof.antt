@@ -7,7 +7,7 @@ use Rattle.wanted.proofs.ghost_ended_says.Tie as tie
 use Rattle.wanted.proofs.ghost_ended_says.Reads as reads
 use Rattle.wanted.proofs.ghost_ended_says.Lts as lts
 use Rattle.counts.proofs.book_absent.Reads as book-absent-reads
-use Rattle.wanted.proofs.repairing.Reads as repairing-reads
+use Rattle.books.proofs.repairing.Reads as repairing-reads
 
 book-absent-requires : tie.Need-book-absent-requires
 book-absent-requires c κs = search needs

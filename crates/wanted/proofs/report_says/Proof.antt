@@ -8,7 +8,7 @@ use Rattle.wanted.proofs.report_says.Reads as reads
 use Rattle.wanted.proofs.report_says.Lts as lts
 use Rattle.counts.proofs.book_absent.Reads as book-absent-reads
 use Rattle.fields.proofs.is_dead.Reads as is-dead-reads
-use Rattle.wanted.proofs.repairing.Reads as repairing-reads
+use Rattle.books.proofs.repairing.Reads as repairing-reads
 use Rattle.wanted.proofs.report_fits.Reads as report-fits-reads
 
 is-dead-requires : tie.Need-is-dead-requires
