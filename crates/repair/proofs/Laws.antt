@@ -1,11 +1,11 @@
 -- The ranges that a made finish and places of the session have, and what a taken ask has room for.
 use mathlib.Core.Path.{_≡_}
-use mathlib.Core.Bool.{Bool, true, false, not}
+use mathlib.Core.Bool.{true, false}
 use mathlib.Core.List.{List, [], _∷_}
 use Prim.Native.Nat.{ℕ, _≤_, _<_}
 use native.Mathlib.Omega.{arith}
 use borrow.Author.Tests.{leb-true, ltb-true}
-use lib.Dec.{leb, ltb}
+use lib.Dec.{leb}
 use Rattle.tables.specs.Walks.{every}
 use Rattle.tables.proofs.Walks.{every-each}
 use Rattle.rules.specs.Fields.{places, finishesMade, finishMade, inSession}

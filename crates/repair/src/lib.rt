@@ -20,12 +20,10 @@ fn ask_there(t: &[u8], f: u8, v: u8, j: u8) -> bool
     requires { ⌜ Whole (now t) ⌝ }
     ensures { λ r. ⌜ r ≡ every (finishMade (now (t .entry)) f ∷ inSession (now (t .entry)) v ∷ inSession (now (t .entry)) j ∷ []) ⌝ }
 {
-    if fields::finish_made(t, f) {
-    } else {
+    if fields::finish_made(t, f) {} else {
         return false;
     }
-    if fields::in_session(t, v) {
-    } else {
+    if fields::in_session(t, v) {} else {
         return false;
     }
     fields::in_session(t, j)
@@ -36,8 +34,7 @@ fn ask_misplaced(t: &[u8], f: u8, v: u8, j: u8) -> bool
     requires { ⌜ Whole (now t) ⌝ }
     ensures { λ r. ⌜ r ≡ wrongPlace (now (t .entry)) (ask f v j) ⌝ }
 {
-    if fields::is_dead(t, v) {
-    } else {
+    if fields::is_dead(t, v) {} else {
         return true;
     }
     fields::is_dead(t, j)
@@ -73,8 +70,7 @@ fn ask_refusal(t: &[u8], f: u8, v: u8, j: u8) -> u8
     requires { ⌜ (places (now t) ≤ 8) × (finishesMade (now t) ≤ 32) ⌝ }
     ensures { λ r. ⌜ r ≡ stepAnswer (now (t .entry)) (ask f v j) ⌝ }
 {
-    if ask_there(t, f, v, j) {
-    } else {
+    if ask_there(t, f, v, j) {} else {
         return 2;
     }
     if ask_misplaced(t, f, v, j) {

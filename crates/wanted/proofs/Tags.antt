@@ -1,18 +1,16 @@
 -- What refuses a deliver, tag by tag, as the code tests it: a chain of tests that ends in 0, 5 or 9.
 use mathlib.Core.Path.{_≡_, refl, ap, _∙_}
-use mathlib.Core.Bool.{Bool, true, false, cond, not, _&&_}
+use mathlib.Core.Bool.{Bool, true, false, cond, not}
 use mathlib.Core.List.{List, [], _∷_}
-use Prim.Native.Nat.{ℕ, _+_, _*_}
-use lib.Dec.{eqb, ltb, leb}
-use Rattle.tables.specs.Bytes.{byte}
-use Rattle.tables.specs.Bits.{bitAt, marked}
+use Prim.Native.Nat.{ℕ}
+use lib.Dec.{eqb, leb}
+use Rattle.tables.specs.Bits.{marked}
 use Rattle.tables.specs.Walks.{every, someOf}
-use Rattle.tables.specs.Layout.{place, taskRow, finishRow, bookRow, localRow}
 use Rattle.rules.specs.Fields.{deadMask, dead, taskStatus, taskMaker, home, opener, finishStatus, live, sentCount, received, localLive, denyMask, mayRun}
 use Rattle.rules.specs.Books.{bookOf, underRepair}
 use Rattle.rules.specs.Messages.{publish, published, transit, granted, denied, task, report, release, ghostEnded, countDropped, dropped, goesTo}
 use Rattle.rules.specs.Deliver.{bookAbsent, discarded, waitsForRepair, held, lowers, fits, deliverWanted}
-use Rattle.rules.specs.Refusals.{Check, refuse, firstOf}
+use Rattle.rules.specs.Refusals.{refuse, firstOf}
 use Rattle.wanted.specs.Says.{deliverSays}
 
 -- the two checks of a message: gone is discarded, rep is under repair, d is that its place is dead, w that its statuses and counts fit

@@ -21,18 +21,20 @@ same-length c = search needs
 
 returns : tie.Need-returns
 unfolding closingSent closingTest
-returns c = 
-    (was-true _ _ _ _ _ (c .before .before .before .before .before .does-close .ensures) (c .before .before .before .before .if1 .taken) (c .before .before .close-book .ensures .0),
-    was-true _ _ _ _ _ (c .before .before .before .before .before .does-close .ensures) (c .before .before .before .before .if1 .taken) (c .before .before .close-book .ensures .1))
+returns c = (
+  was-true _ _ _ _ _ (c .before .before .before .before .before .does-close .ensures) (c .before .before .before .before .if1 .taken) (c .before .before .close-book .ensures .0),
+  was-true _ _ _ _ _ (c .before .before .before .before .before .does-close .ensures) (c .before .before .before .before .if1 .taken) (c .before .before .close-book .ensures .1),
+)
 
 same-length-2 : tie.Need-same-length-2
 same-length-2 c = search needs
 
 returns-2 : tie.Need-returns-2
 unfolding closingSent closingTest
-returns-2 c = 
-    (was-false _ _ _ _ _ (c .before .does-close .ensures) (c .if1 .left) refl,
-    was-false _ _ _ _ _ (c .before .does-close .ensures) (c .if1 .left) refl)
+returns-2 c = (
+  was-false _ _ _ _ _ (c .before .does-close .ensures) (c .if1 .left) refl,
+  was-false _ _ _ _ _ (c .before .does-close .ensures) (c .if1 .left) refl,
+)
 
 pub close-spec : {M : Type 1} → statement M
 close-spec =

@@ -24,9 +24,10 @@ same-length c = search needs
 
 returns : tie.Need-returns
 unfolding closedSends closedBook
-returns c = 
-    (was-true _ _ _ _ _ (c .before .before .before .before .before .is-adopted .ensures) (c .before .before .before .before .if1 .taken) refl,
-    was-true _ _ _ _ _ (c .before .before .before .before .before .is-adopted .ensures) (c .before .before .before .before .if1 .taken) (c .before .before .end-ghost .ensures))
+returns c = (
+  was-true _ _ _ _ _ (c .before .before .before .before .before .is-adopted .ensures) (c .before .before .before .before .if1 .taken) refl,
+  was-true _ _ _ _ _ (c .before .before .before .before .before .is-adopted .ensures) (c .before .before .before .before .if1 .taken) (c .before .before .end-ghost .ensures),
+)
 
 home-dead-requires : tie.Need-home-dead-requires
 home-dead-requires c κs = search needs
@@ -39,9 +40,10 @@ same-length-2 c = search needs
 
 returns-2 : tie.Need-returns-2
 unfolding closedSends closedBook
-returns-2 c = 
-    (was-false _ _ _ _ _ (c .before .before .before .before .before .before .before .before .is-adopted .ensures) (c .before .before .before .before .before .before .before .if1 .left) (was-true _ _ _ _ _ (c .before .before .before .before .before .home-dead .ensures) (c .before .before .before .before .if2 .taken) refl),
-    was-false _ _ _ _ _ (c .before .before .before .before .before .before .before .before .is-adopted .ensures) (c .before .before .before .before .before .before .before .if1 .left) (was-true _ _ _ _ _ (c .before .before .before .before .before .home-dead .ensures) (c .before .before .before .before .if2 .taken) (c .before .before .clear-rows .ensures)))
+returns-2 c = (
+  was-false _ _ _ _ _ (c .before .before .before .before .before .before .before .before .is-adopted .ensures) (c .before .before .before .before .before .before .before .if1 .left) (was-true _ _ _ _ _ (c .before .before .before .before .before .home-dead .ensures) (c .before .before .before .before .if2 .taken) refl),
+  was-false _ _ _ _ _ (c .before .before .before .before .before .before .before .before .is-adopted .ensures) (c .before .before .before .before .before .before .before .if1 .left) (was-true _ _ _ _ _ (c .before .before .before .before .before .home-dead .ensures) (c .before .before .before .before .if2 .taken) (c .before .before .clear-rows .ensures)),
+)
 
 release-home-requires : tie.Need-release-home-requires
 release-home-requires c κs = search needs
@@ -51,9 +53,10 @@ same-length-3 c = search needs
 
 returns-3 : tie.Need-returns-3
 unfolding closedSends closedBook
-returns-3 c = 
-    (was-false _ _ _ _ _ (c .before .before .before .before .before .before .before .before .is-adopted .ensures) (c .before .before .before .before .before .before .before .if1 .left) (was-false _ _ _ _ _ (c .before .before .before .before .before .home-dead .ensures) (c .before .before .before .before .if2 .left) refl),
-    was-false _ _ _ _ _ (c .before .before .before .before .before .before .before .before .is-adopted .ensures) (c .before .before .before .before .before .before .before .if1 .left) (was-false _ _ _ _ _ (c .before .before .before .before .before .home-dead .ensures) (c .before .before .before .before .if2 .left) (c .before .before .release-home .ensures)))
+returns-3 c = (
+  was-false _ _ _ _ _ (c .before .before .before .before .before .before .before .before .is-adopted .ensures) (c .before .before .before .before .before .before .before .if1 .left) (was-false _ _ _ _ _ (c .before .before .before .before .before .home-dead .ensures) (c .before .before .before .before .if2 .left) refl),
+  was-false _ _ _ _ _ (c .before .before .before .before .before .before .before .before .is-adopted .ensures) (c .before .before .before .before .before .before .before .if1 .left) (was-false _ _ _ _ _ (c .before .before .before .before .before .home-dead .ensures) (c .before .before .before .before .if2 .left) (c .before .before .release-home .ensures)),
+)
 
 pub close-book-spec : {M : Type 1} → statement M
 close-book-spec =

@@ -22,11 +22,12 @@ same-length c = search needs
 
 returns : tie.Need-returns
 unfolding send bytesOf
-returns c = 
-    rw
-    (c .before .before .put-message .ensures,
-    c .before .before .before .before .before .before .clear-rows .ensures,
-    c .before .before .before .before .before .before .before .before .book-byte .ensures)
+returns c =
+    rw (
+      c .before .before .put-message .ensures,
+      c .before .before .before .before .before .before .clear-rows .ensures,
+      c .before .before .before .before .before .before .before .before .book-byte .ensures,
+    )
 
 pub end-ghost-spec : {M : Type 1} → statement M
 end-ghost-spec =

@@ -18,10 +18,11 @@ same-length c = search needs
 
 returns : tie.Need-returns
 unfolding send bytesOf
-returns c = 
-    rw
-    (c .before .before .put-message .ensures,
-    c .before .before .before .before .before .before .clear-rows .ensures)
+returns c =
+    rw (
+      c .before .before .put-message .ensures,
+      c .before .before .before .before .before .before .clear-rows .ensures,
+    )
 
 pub release-home-spec : {M : Type 1} → statement M
 release-home-spec =

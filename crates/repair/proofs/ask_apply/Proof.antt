@@ -29,12 +29,13 @@ same-length c = search needs
 
 returns : tie.Need-returns
 unfolding step askStep send bytesOf
-returns c = 
-    rw
-    (c .before .before .put-message .ensures,
-    c .before .before .before .before .before .before .mark-asked .ensures,
-    c .before .before .before .before .before .before .before .before .sent-at .ensures,
-    c .before .before .before .before .before .before .before .before .before .before .free-slot .ensures .0)
+returns c =
+    rw (
+      c .before .before .put-message .ensures,
+      c .before .before .before .before .before .before .mark-asked .ensures,
+      c .before .before .before .before .before .before .before .before .sent-at .ensures,
+      c .before .before .before .before .before .before .before .before .before .before .free-slot .ensures .0,
+    )
 
 pub ask-apply-spec : {M : Type 1} → statement M
 ask-apply-spec =

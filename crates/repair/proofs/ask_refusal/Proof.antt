@@ -18,7 +18,7 @@ ask-there-requires c κs = search needs
 
 returns : tie.Need-returns
 unfolding stepAnswer stepRefusals firstOf notThere mustWait noRoom unwanted
-returns c = 
+returns c =
     was-so _ _ _ _ _ (c .before .ask-there .ensures) (c .if1 .left) refl
 
 ask-misplaced-requires : tie.Need-ask-misplaced-requires
@@ -26,7 +26,7 @@ ask-misplaced-requires c κs = search needs
 
 returns-2 : tie.Need-returns-2
 unfolding stepAnswer stepRefusals firstOf notThere mustWait noRoom unwanted
-returns-2 c = 
+returns-2 c =
     was-not _ _ _ _ _ (c .before .before .before .ask-there .ensures) (c .before .before .if1 .taken)
     (was-true _ _ _ _ _ (c .before .ask-misplaced .ensures) (c .if2 .taken) refl)
 
@@ -35,7 +35,7 @@ ask-unready-requires c κs = (search needs, ask-ranges _ (c .before .before .bef
 
 returns-3 : tie.Need-returns-3
 unfolding stepAnswer stepRefusals firstOf notThere mustWait noRoom unwanted
-returns-3 c = 
+returns-3 c =
     was-not _ _ _ _ _ (c .before .before .before .before .before .ask-there .ensures) (c .before .before .before .before .if1 .taken)
     (was-false _ _ _ _ _ (c .before .before .before .ask-misplaced .ensures) (c .before .before .if2 .left)
     (was-true _ _ _ _ _ (c .before .ask-unready .ensures) (c .if3 .taken) refl))
@@ -45,7 +45,7 @@ repairing-requires c κs = (search needs, ask-ranges _ (c .before .before .befor
 
 returns-4 : tie.Need-returns-4
 unfolding stepAnswer stepRefusals firstOf notThere mustWait noRoom unwanted
-returns-4 c = 
+returns-4 c =
     was-not _ _ _ _ _ (c .before .before .before .before .before .before .before .ask-there .ensures) (c .before .before .before .before .before .before .if1 .taken)
     (was-false _ _ _ _ _ (c .before .before .before .before .before .ask-misplaced .ensures) (c .before .before .before .before .if2 .left)
     (was-false _ _ _ _ _ (c .before .before .before .ask-unready .ensures) (c .before .before .if3 .left)
@@ -56,7 +56,7 @@ slots-full-requires c κs = search needs
 
 returns-5 : tie.Need-returns-5
 unfolding stepAnswer stepRefusals firstOf notThere mustWait noRoom unwanted
-returns-5 c = 
+returns-5 c =
     was-not _ _ _ _ _ (c .before .before .before .before .before .before .before .before .before .ask-there .ensures) (c .before .before .before .before .before .before .before .before .if1 .taken)
     (was-false _ _ _ _ _ (c .before .before .before .before .before .before .before .ask-misplaced .ensures) (c .before .before .before .before .before .before .if2 .left)
     (was-false _ _ _ _ _ (c .before .before .before .before .before .ask-unready .ensures) (c .before .before .before .before .if3 .left)
@@ -65,7 +65,7 @@ returns-5 c =
 
 returns-6 : tie.Need-returns-6
 unfolding stepAnswer stepRefusals firstOf notThere mustWait noRoom unwanted
-returns-6 c = 
+returns-6 c =
     was-not _ _ _ _ _ (c .before .before .before .before .before .before .before .before .before .ask-there .ensures) (c .before .before .before .before .before .before .before .before .if1 .taken)
     (was-false _ _ _ _ _ (c .before .before .before .before .before .before .before .ask-misplaced .ensures) (c .before .before .before .before .before .before .if2 .left)
     (was-false _ _ _ _ _ (c .before .before .before .before .before .ask-unready .ensures) (c .before .before .before .before .if3 .left)

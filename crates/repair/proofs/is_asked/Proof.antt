@@ -21,10 +21,11 @@ is-marked-requires c κs = search needs
 
 returns : tie.Need-returns
 returns c =
-    rw
-    (c .is-marked .ensures,
-    c .before .book-byte .ensures,
-    c .before .before .wide .ensures .0)
+    rw (
+      c .is-marked .ensures,
+      c .before .book-byte .ensures,
+      c .before .before .wide .ensures .0,
+    )
 
 pub is-asked-spec : {M : Type 1} → statement M
 is-asked-spec =

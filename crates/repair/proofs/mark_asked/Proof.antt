@@ -34,12 +34,13 @@ same-length c = search needs
 
 returns : tie.Need-returns
 returns c =
-    rw
-    (c .before .before .put-book-byte .ensures,
-    c .before .before .before .wide2 .ensures .0,
-    c .before .before .before .before .before .with-mark .ensures,
-    c .before .before .before .before .before .before .book-byte .ensures,
-    c .before .before .before .before .before .before .before .wide .ensures .0)
+    rw (
+      c .before .before .put-book-byte .ensures,
+      c .before .before .before .wide2 .ensures .0,
+      c .before .before .before .before .before .with-mark .ensures,
+      c .before .before .before .before .before .before .book-byte .ensures,
+      c .before .before .before .before .before .before .before .wide .ensures .0,
+    )
 
 pub mark-asked-spec : {M : Type 1} → statement M
 mark-asked-spec =

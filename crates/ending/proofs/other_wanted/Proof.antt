@@ -1,0 +1,27 @@
+use Rattle.ending.proofs.Laws.{was-none, was-some}
+use Rattle.rules.specs.End.{endOtherWanted}
+use Rattle.tables.specs.Walks.{every}
+use mathlib.Core.Path.{refl}
+use Rattle.tables.proofs.Tests.{last}
+use borrow.Author.Needs.{needs}
+use Rattle.ending.proofs.other_wanted.Statement.{statement}
+use Rattle.ending.proofs.other_wanted.Tie as tie
+use Rattle.ending.proofs.other_wanted.Reads as reads
+use Rattle.ending.proofs.other_wanted.Lts as lts
+
+local-live-requires : tie.Need-local-live-requires
+local-live-requires c κs = search needs
+
+returns : tie.Need-returns
+unfolding endOtherWanted every
+returns c = was-none _ _ _ _ _ (c .before .local-live .ensures) (c .if1 .taken) refl
+
+last-wanted-requires : tie.Need-last-wanted-requires
+last-wanted-requires c κs = search needs
+
+returns-2 : tie.Need-returns-2
+unfolding endOtherWanted every
+returns-2 c = was-some _ _ _ _ _ (c .before .before .local-live .ensures) (c .before .if1 .left) (last _ _ (c .last-wanted .ensures))
+
+pub other-wanted-spec : {M : Type 1} → statement M
+other-wanted-spec = tie.close (tie.spec local-live-requires returns last-wanted-requires returns-2)
