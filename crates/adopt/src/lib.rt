@@ -14,12 +14,7 @@ ghost use Rattle.rules.specs.Adopt.{orphan, adoptBook, withGhosts, adoptStep};
 ghost use Rattle.rules.specs.Refusals.{firstOf, stepRefusals};
 ghost use Rattle.adopt.specs.Ghosts.{isGhost, newGhosts};
 use tables::Tables;
-
-fn wide(x: u8) -> usize
-    ensures { λ r. ⌜ (r ≡ x) × (r < 256) ⌝ }
-{
-    x as usize
-}
+use tables::wide;
 
 fn is_orphan(f: u8, present: u8, adopted: u8, parent: u8, dead: u8, home: u8) -> bool
     ensures { λ r. ⌜ r ≡ every (eqb present 1 ∷ eqb adopted 0 ∷ eqb parent f ∷ marked dead home ∷ []) ⌝ }

@@ -1,5 +1,5 @@
 // What a delivered message does, for the tags whose rule has no closing test: each answers the tag of its reply, 0 for none.
-use fields::wide;
+use tables::wide;
 ghost use mathlib.Core.Path.{_≡_};
 ghost use mathlib.Core.Bool.{false, cond};
 ghost use Prim.Native.Nat.{_≤_, _<_};

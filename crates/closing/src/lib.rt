@@ -1,5 +1,5 @@
 // The closing test of a book: total 0 and no ghosts; what it then clears and sends.
-use fields::wide;
+use tables::wide;
 ghost use mathlib.Core.Path.{_≡_};
 ghost use Prim.Native.Nat.{_≤_, _<_};
 ghost use lib.Dec.{eqb};

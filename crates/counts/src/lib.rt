@@ -1,6 +1,6 @@
 // The bytes of store books and local books by name, one at a time: read, tested and written.
-use fields::wide;
 use tables::Tables;
+use tables::wide;
 ghost use mathlib.Core.Path.{_≡_};
 ghost use Prim.Native.Nat.{_+_, _*_, _≤_, _<_};
 ghost use lib.ListN.{set};

@@ -23,7 +23,7 @@ fn local_at(f: u8, p: u8) -> usize
     requires { ⌜ LocalBook f p ⌝ }
     ensures { λ r. ⌜ (r ≡ 8 * localRow f p) × (r + 24 ≤ 13056) ⌝ }
 {
-    Tables::local(fields::wide(f), fields::wide(p))
+    Tables::local(tables::wide(f), tables::wide(p))
 }
 
 // The number of live tasks of finish f at place p.
@@ -119,7 +119,7 @@ fn one_at(h: u8) -> [u8; 8]
     if 8 <= h {
         return counts;
     }
-    counts[fields::wide(h)] = 1;
+    counts[tables::wide(h)] = 1;
     counts
 }
 

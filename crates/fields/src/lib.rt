@@ -1,4 +1,5 @@
 // The fields of row 0, tasks and finishes by name, and what is asked of them: made, in the session, main, about to run.
+use tables::wide;
 ghost use mathlib.Core.Path.{_≡_};
 ghost use Prim.Native.Nat.{_+_, _*_, _<_};
 ghost use lib.Dec.{eqb};
@@ -6,12 +7,6 @@ ghost use lib.ListN.{set};
 ghost use Rattle.tables.specs.Bytes.{byte};
 ghost use Rattle.tables.specs.Layout.{Whole, place, taskRow, finishRow};
 ghost use Rattle.rules.specs.Fields.{taskStatus, home, dead, taskMade, finishMade, inSession, isMain, mayRun, runs, withTaskStatus, withFinishStatus};
-
-pub fn wide(x: u8) -> usize
-    ensures { λ r. ⌜ (r ≡ x) × (r < 256) ⌝ }
-{
-    x as usize
-}
 
 // Byte `column` of task k's row.
 pub fn task_byte(t: &[u8], k: u8, column: usize) -> u8

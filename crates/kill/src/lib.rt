@@ -17,12 +17,7 @@ ghost use Rattle.rules.specs.Kill.{losesTask, killTask, losesFinish, killFinish
 ghost use Rattle.rules.specs.Refusals.{firstOf, stepRefusals};
 ghost use Rattle.kill.specs.Tags.{goesByTag, fallsDue};
 use tables::Tables;
-
-fn wide(x: u8) -> usize
-    ensures { λ r. ⌜ (r ≡ x) × (r < 256) ⌝ }
-{
-    x as usize
-}
+use tables::wide;
 
 fn is_either(x: u8, a: u8, b: u8) -> bool
     ensures { λ r. ⌜ r ≡ someOf (eqb x a ∷ eqb x b ∷ []) ⌝ }

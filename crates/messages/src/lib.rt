@@ -10,18 +10,12 @@ ghost use Rattle.rules.specs.Messages.{none, report, message, noCounts, slotPla
 ghost use Rattle.rules.specs.Quiet.{isRunning, runningTasks, isFull, messagesInFlight};
 ghost use Rattle.messages.specs.Found.{foundAt};
 use tables::Tables;
+use tables::wide;
 
 // A slot, or none.
 pub enum Found {
     At(usize),
     Nothing,
-}
-
-// A byte as an index.
-fn wide(x: u8) -> usize
-    ensures { λ r. ⌜ (r ≡ x) × (r < 256) ⌝ }
-{
-    x as usize
 }
 
 // Tag 0 is empty.

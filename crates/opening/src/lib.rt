@@ -85,8 +85,8 @@ fn open_rows(t: &mut [u8], k: u8, p: u8, q: u8, n: u8, g: u8)
     fields::put_status(t, k, 6);
     fields::put_tasks_made(t, n);
     fields::put_finishes_made(t, g);
-    tables::put_row(t, 8 * fields::wide(n), [p, p, g, 5, 0, k, 0, 0]);
-    tables::put_row(t, 8 * (255 + fields::wide(g)), [p, k, q, 1, 0, n, 0, 0]);
+    tables::put_row(t, 8 * tables::wide(n), [p, p, g, 5, 0, k, 0, 0]);
+    tables::put_row(t, 8 * (255 + tables::wide(g)), [p, k, q, 1, 0, n, 0, 0]);
 }
 
 fn open_apply(t: &mut [u8], k: u8)

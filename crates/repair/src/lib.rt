@@ -1,6 +1,6 @@
 // The two steps that repair a book after a kill and may send: cancel a dead place's column, and ask for a dropped count.
 use answers::Answer;
-use fields::wide;
+use tables::wide;
 ghost use mathlib.Core.Path.{_≡_};
 ghost use mathlib.Core.List.{[], _∷_};
 ghost use Prim.Native.Nat.{_≤_, _<_};

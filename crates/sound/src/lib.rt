@@ -7,13 +7,7 @@ ghost use Rattle.tables.specs.Layout.{Whole};
 ghost use Rattle.rules.specs.Messages.{publish, transit, report, release, ghostEnded, dropped, tagged};
 ghost use Rattle.rules.specs.Sound.{headSound, taskFits, finishFits, parentFits, bookFits, messageFits, taskSound, finishSound, bookSound, slotSound, tasksSound, finishesSound, booksSound, slotsSound, rowsSound, sound};
 use tables::Tables;
-
-// A byte as an index.
-fn wide(x: u8) -> usize
-    ensures { λ r. ⌜ (r ≡ x) × (r < 256) ⌝ }
-{
-    x as usize
-}
+use tables::wide;
 
 // The bits of a mask from bit n on.
 fn bits_from(m: u8, n: u8) -> usize

@@ -87,7 +87,7 @@ fn with_sent(t: &mut [u8], k: u8, n: u8, v: u8, p: u8, f: u8, status: u8)
 {
     fields::put_status(t, k, 6);
     fields::put_tasks_made(t, n);
-    tables::put_row(t, 8 * fields::wide(n), [v, p, f, status, 1, k, 0, 0]);
+    tables::put_row(t, 8 * tables::wide(n), [v, p, f, status, 1, k, 0, 0]);
 }
 
 // The first spawn of a finish publishes it.

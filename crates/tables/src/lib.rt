@@ -83,6 +83,13 @@ impl Tables {
     }
 }
 
+// A byte as a number that counts and indexes.
+pub fn wide(x: u8) -> usize
+    ensures { λ r. ⌜ (r ≡ x) × (r < 256) ⌝ }
+{
+    x as usize
+}
+
 // The eight bytes from place `at` on, by value.
 pub fn row_of(t: &[u8], at: usize) -> [u8; 8]
     requires { ⌜ at + 8 ≤ length (now t) ⌝ }

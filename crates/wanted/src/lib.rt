@@ -1,5 +1,5 @@
 // What refuses the deliver of a message: held (5), or a status or a count that is wanted and not found (9); tag by tag.
-use fields::wide;
+use tables::wide;
 ghost use mathlib.Core.Path.{_≡_};
 ghost use Prim.Native.Nat.{_≤_, _<_};
 ghost use lib.Dec.{eqb, leb};

@@ -8,7 +8,7 @@ use Rattle.adopt.proofs.adopt.Lts as lts
 use Rattle.adopt.proofs.adopt_books.Reads as adopt-books-reads
 use Rattle.adopt.proofs.clear_due.Reads as clear-due-reads
 use Rattle.adopt.proofs.new_ghosts.Reads as new-ghosts-reads
-use Rattle.adopt.proofs.wide.Reads as wide-reads
+use Rattle.tables.proofs.wide.Reads as wide-reads
 use Rattle.tables.proofs.Tables.book.Reads as book-reads
 use Rattle.tables.proofs.put_part.Reads as put-part-reads
 

@@ -10,7 +10,7 @@ use Rattle.adopt.proofs.adopt_refusal.Statement.{statement}
 use Rattle.adopt.proofs.adopt_refusal.Tie as tie
 use Rattle.adopt.proofs.adopt_refusal.Reads as reads
 use Rattle.adopt.proofs.adopt_refusal.Lts as lts
-use Rattle.adopt.proofs.wide.Reads as wide-reads
+use Rattle.tables.proofs.wide.Reads as wide-reads
 use Rattle.tables.proofs.Tables.book.Reads as book-reads
 
 returns : tie.Need-returns

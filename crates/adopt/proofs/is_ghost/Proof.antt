@@ -10,7 +10,7 @@ use Rattle.adopt.proofs.is_ghost.Tie as tie
 use Rattle.adopt.proofs.is_ghost.Reads as reads
 use Rattle.adopt.proofs.is_ghost.Lts as lts
 use Rattle.adopt.proofs.is_orphan_at.Reads as is-orphan-at-reads
-use Rattle.adopt.proofs.wide.Reads as wide-reads
+use Rattle.tables.proofs.wide.Reads as wide-reads
 use Rattle.tables.proofs.Tables.book.Reads as book-reads
 use Rattle.tables.proofs.is_marked.Reads as is-marked-reads
 

@@ -4,7 +4,7 @@ use Rattle.adopt.proofs.new_ghosts.Statement.{statement}
 use Rattle.adopt.proofs.new_ghosts.Tie as tie
 use Rattle.adopt.proofs.new_ghosts.Reads as reads
 use Rattle.adopt.proofs.new_ghosts.Lts as lts
-use Rattle.adopt.proofs.wide.Reads as wide-reads
+use Rattle.tables.proofs.wide.Reads as wide-reads
 use Rattle.adopt.proofs.with_ghosts.Reads as with-ghosts-reads
 use Rattle.tables.proofs.Tables.book.Reads as book-reads
 

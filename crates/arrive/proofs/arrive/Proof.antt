@@ -8,7 +8,7 @@ use Rattle.counts.proofs.local_byte.Reads as local-byte-reads
 use Rattle.counts.proofs.put_local_byte.Reads as put-local-byte-reads
 use Rattle.counts.proofs.received_at.Reads as received-at-reads
 use Rattle.fields.proofs.put_status.Reads as put-status-reads
-use Rattle.fields.proofs.wide.Reads as wide-reads
+use Rattle.tables.proofs.wide.Reads as wide-reads
 
 received-at-requires : tie.Need-received-at-requires
 received-at-requires c κs = search needs

@@ -7,7 +7,7 @@ use Rattle.arrive.proofs.count.Lts as lts
 use Rattle.counts.proofs.live_at.Reads as live-at-reads
 use Rattle.counts.proofs.put_book_byte.Reads as put-book-byte-reads
 use Rattle.counts.proofs.sent_at.Reads as sent-at-reads
-use Rattle.fields.proofs.wide.Reads as wide-reads
+use Rattle.tables.proofs.wide.Reads as wide-reads
 
 live-at-requires : tie.Need-live-at-requires
 live-at-requires c κs = search needs

@@ -4,7 +4,7 @@ use Rattle.arrive.proofs.finish_published.Tie as tie
 use Rattle.arrive.proofs.finish_published.Reads as reads
 use Rattle.arrive.proofs.finish_published.Lts as lts
 use Rattle.fields.proofs.put_finish_status.Reads as put-finish-status-reads
-use Rattle.fields.proofs.wide.Reads as wide-reads
+use Rattle.tables.proofs.wide.Reads as wide-reads
 
 put-finish-status-requires : tie.Need-put-finish-status-requires
 put-finish-status-requires c κs = search needs

@@ -12,7 +12,7 @@ use Rattle.arrive.proofs.publish.Lts as lts
 use Rattle.books.proofs.nearest_book.Reads as nearest-book-reads
 use Rattle.books.proofs.new_book.Reads as new-book-reads
 use Rattle.fields.proofs.finish_byte.Reads as finish-byte-reads
-use Rattle.fields.proofs.wide.Reads as wide-reads
+use Rattle.tables.proofs.wide.Reads as wide-reads
 use Rattle.messages.proofs.put_message.Reads as put-message-reads
 
 finish-byte-requires : tie.Need-finish-byte-requires

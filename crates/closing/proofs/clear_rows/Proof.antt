@@ -4,7 +4,7 @@ use Rattle.closing.proofs.clear_rows.Tie as tie
 use Rattle.closing.proofs.clear_rows.Reads as reads
 use Rattle.closing.proofs.clear_rows.Lts as lts
 use Rattle.books.proofs.clear_book.Reads as clear-book-reads
-use Rattle.fields.proofs.wide.Reads as wide-reads
+use Rattle.tables.proofs.wide.Reads as wide-reads
 
 wide-requires : tie.Need-wide-requires
 wide-requires c κs = search needs

@@ -4,7 +4,7 @@ use Rattle.closing.proofs.does_close.Tie as tie
 use Rattle.closing.proofs.does_close.Reads as reads
 use Rattle.closing.proofs.does_close.Lts as lts
 use Rattle.books.proofs.book_closes.Reads as book-closes-reads
-use Rattle.fields.proofs.wide.Reads as wide-reads
+use Rattle.tables.proofs.wide.Reads as wide-reads
 
 wide-requires : tie.Need-wide-requires
 wide-requires c κs = search needs

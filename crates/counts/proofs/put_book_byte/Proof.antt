@@ -3,7 +3,7 @@ use Rattle.counts.proofs.put_book_byte.Statement.{statement}
 use Rattle.counts.proofs.put_book_byte.Tie as tie
 use Rattle.counts.proofs.put_book_byte.Reads as reads
 use Rattle.counts.proofs.put_book_byte.Lts as lts
-use Rattle.fields.proofs.wide.Reads as wide-reads
+use Rattle.tables.proofs.wide.Reads as wide-reads
 use Rattle.tables.proofs.Tables.book.Reads as book-reads
 
 wide-requires : tie.Need-wide-requires

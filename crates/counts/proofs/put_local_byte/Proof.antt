@@ -3,7 +3,7 @@ use Rattle.counts.proofs.put_local_byte.Statement.{statement}
 use Rattle.counts.proofs.put_local_byte.Tie as tie
 use Rattle.counts.proofs.put_local_byte.Reads as reads
 use Rattle.counts.proofs.put_local_byte.Lts as lts
-use Rattle.fields.proofs.wide.Reads as wide-reads
+use Rattle.tables.proofs.wide.Reads as wide-reads
 use Rattle.tables.proofs.Tables.local.Reads as local-reads
 
 wide-requires : tie.Need-wide-requires

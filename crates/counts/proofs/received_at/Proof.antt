@@ -4,7 +4,7 @@ use Rattle.counts.proofs.received_at.Tie as tie
 use Rattle.counts.proofs.received_at.Reads as reads
 use Rattle.counts.proofs.received_at.Lts as lts
 use Rattle.counts.proofs.local_byte.Reads as local-byte-reads
-use Rattle.fields.proofs.wide.Reads as wide-reads
+use Rattle.tables.proofs.wide.Reads as wide-reads
 
 wide-requires : tie.Need-wide-requires
 wide-requires c κs = search needs

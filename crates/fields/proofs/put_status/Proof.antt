@@ -3,7 +3,7 @@ use Rattle.fields.proofs.put_status.Statement.{statement}
 use Rattle.fields.proofs.put_status.Tie as tie
 use Rattle.fields.proofs.put_status.Reads as reads
 use Rattle.fields.proofs.put_status.Lts as lts
-use Rattle.fields.proofs.wide.Reads as wide-reads
+use Rattle.tables.proofs.wide.Reads as wide-reads
 
 wide-requires : tie.Need-wide-requires
 wide-requires c κs = search needs

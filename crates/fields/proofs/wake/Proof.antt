@@ -5,7 +5,7 @@ use Rattle.fields.proofs.wake.Statement.{statement}
 use Rattle.fields.proofs.wake.Tie as tie
 use Rattle.fields.proofs.wake.Reads as reads
 use Rattle.fields.proofs.wake.Lts as lts
-use Rattle.fields.proofs.wide.Reads as wide-reads
+use Rattle.tables.proofs.wide.Reads as wide-reads
 
 returns : tie.Need-returns
 unfolding runs

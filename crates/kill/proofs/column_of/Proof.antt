@@ -5,7 +5,7 @@ use Rattle.kill.proofs.column_of.Statement.{statement}
 use Rattle.kill.proofs.column_of.Tie as tie
 use Rattle.kill.proofs.column_of.Reads as reads
 use Rattle.kill.proofs.column_of.Lts as lts
-use Rattle.kill.proofs.wide.Reads as wide-reads
+use Rattle.tables.proofs.wide.Reads as wide-reads
 
 add-wide : tie.Need-add-wide
 add-wide c = search needs

@@ -6,7 +6,7 @@ use Rattle.kill.proofs.goes_to.Tie as tie
 use Rattle.kill.proofs.goes_to.Reads as reads
 use Rattle.kill.proofs.goes_to.Lts as lts
 use Rattle.kill.proofs.goes_by_tag.Reads as goes-by-tag-reads
-use Rattle.kill.proofs.wide.Reads as wide-reads
+use Rattle.tables.proofs.wide.Reads as wide-reads
 
 add-wide : tie.Need-add-wide
 add-wide c = search needs

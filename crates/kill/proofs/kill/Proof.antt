@@ -11,7 +11,7 @@ use Rattle.kill.proofs.kill_locals.Reads as kill-locals-reads
 use Rattle.kill.proofs.kill_slots.Reads as kill-slots-reads
 use Rattle.kill.proofs.kill_tasks.Reads as kill-tasks-reads
 use Rattle.kill.proofs.mark_dead.Reads as mark-dead-reads
-use Rattle.kill.proofs.wide.Reads as wide-reads
+use Rattle.tables.proofs.wide.Reads as wide-reads
 
 slice-read-wide : tie.Need-slice-read-wide
 slice-read-wide c = search needs

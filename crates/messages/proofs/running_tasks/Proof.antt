@@ -9,7 +9,7 @@ use Rattle.messages.proofs.running_tasks.Tie as tie
 use Rattle.messages.proofs.running_tasks.Reads as reads
 use Rattle.messages.proofs.running_tasks.Lts as lts
 use Rattle.messages.proofs.running_one.Reads as running-one-reads
-use Rattle.messages.proofs.wide.Reads as wide-reads
+use Rattle.tables.proofs.wide.Reads as wide-reads
 use Rattle.tables.proofs.Tables.task.Reads as task-reads
 
 abbrev Inv-loop : tie.InvT-loop

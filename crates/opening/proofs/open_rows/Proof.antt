@@ -8,7 +8,7 @@ use Rattle.opening.proofs.open_rows.Lts as lts
 use Rattle.fields.proofs.put_finishes_made.Reads as put-finishes-made-reads
 use Rattle.fields.proofs.put_status.Reads as put-status-reads
 use Rattle.fields.proofs.put_tasks_made.Reads as put-tasks-made-reads
-use Rattle.fields.proofs.wide.Reads as wide-reads
+use Rattle.tables.proofs.wide.Reads as wide-reads
 use Rattle.tables.proofs.put_row.Reads as put-row-reads
 
 put-status-requires : tie.Need-put-status-requires

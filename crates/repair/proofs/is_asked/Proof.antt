@@ -4,7 +4,7 @@ use Rattle.repair.proofs.is_asked.Tie as tie
 use Rattle.repair.proofs.is_asked.Reads as reads
 use Rattle.repair.proofs.is_asked.Lts as lts
 use Rattle.counts.proofs.book_byte.Reads as book-byte-reads
-use Rattle.fields.proofs.wide.Reads as wide-reads
+use Rattle.tables.proofs.wide.Reads as wide-reads
 use Rattle.tables.proofs.is_marked.Reads as is-marked-reads
 
 wide-requires : tie.Need-wide-requires

@@ -5,7 +5,7 @@ use Rattle.repair.proofs.mark_asked.Reads as reads
 use Rattle.repair.proofs.mark_asked.Lts as lts
 use Rattle.counts.proofs.book_byte.Reads as book-byte-reads
 use Rattle.counts.proofs.put_book_byte.Reads as put-book-byte-reads
-use Rattle.fields.proofs.wide.Reads as wide-reads
+use Rattle.tables.proofs.wide.Reads as wide-reads
 use Rattle.tables.proofs.with_mark.Reads as with-mark-reads
 
 wide-requires : tie.Need-wide-requires

@@ -3,7 +3,7 @@ use Rattle.sound.proofs.bits_from.Statement.{statement}
 use Rattle.sound.proofs.bits_from.Tie as tie
 use Rattle.sound.proofs.bits_from.Reads as reads
 use Rattle.sound.proofs.bits_from.Lts as lts
-use Rattle.sound.proofs.wide.Reads as wide-reads
+use Rattle.tables.proofs.wide.Reads as wide-reads
 
 wide-requires : tie.Need-wide-requires
 wide-requires c κs = search needs

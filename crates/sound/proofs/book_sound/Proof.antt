@@ -7,7 +7,7 @@ use Rattle.sound.proofs.book_sound.Tie as tie
 use Rattle.sound.proofs.book_sound.Reads as reads
 use Rattle.sound.proofs.book_sound.Lts as lts
 use Rattle.sound.proofs.book_fits.Reads as book-fits-reads
-use Rattle.sound.proofs.wide.Reads as wide-reads
+use Rattle.tables.proofs.wide.Reads as wide-reads
 
 wide-requires : tie.Need-wide-requires
 wide-requires c κs = search needs

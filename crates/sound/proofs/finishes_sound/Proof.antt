@@ -9,7 +9,7 @@ use Rattle.sound.proofs.finishes_sound.Tie as tie
 use Rattle.sound.proofs.finishes_sound.Reads as reads
 use Rattle.sound.proofs.finishes_sound.Lts as lts
 use Rattle.sound.proofs.finish_sound.Reads as finish-sound-reads
-use Rattle.sound.proofs.wide.Reads as wide-reads
+use Rattle.tables.proofs.wide.Reads as wide-reads
 use Rattle.tables.proofs.Tables.finish.Reads as finish-reads
 
 abbrev Inv-loop : tie.InvT-loop

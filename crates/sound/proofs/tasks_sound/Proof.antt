@@ -9,7 +9,7 @@ use Rattle.sound.proofs.tasks_sound.Tie as tie
 use Rattle.sound.proofs.tasks_sound.Reads as reads
 use Rattle.sound.proofs.tasks_sound.Lts as lts
 use Rattle.sound.proofs.task_sound.Reads as task-sound-reads
-use Rattle.sound.proofs.wide.Reads as wide-reads
+use Rattle.tables.proofs.wide.Reads as wide-reads
 use Rattle.tables.proofs.Tables.task.Reads as task-reads
 
 abbrev Inv-loop : tie.InvT-loop

@@ -7,7 +7,7 @@ use Rattle.spawn.proofs.with_sent.Reads as reads
 use Rattle.spawn.proofs.with_sent.Lts as lts
 use Rattle.fields.proofs.put_status.Reads as put-status-reads
 use Rattle.fields.proofs.put_tasks_made.Reads as put-tasks-made-reads
-use Rattle.fields.proofs.wide.Reads as wide-reads
+use Rattle.tables.proofs.wide.Reads as wide-reads
 use Rattle.tables.proofs.put_row.Reads as put-row-reads
 
 put-status-requires : tie.Need-put-status-requires

@@ -4,7 +4,7 @@ use Rattle.wanted.proofs.report_fits.Tie as tie
 use Rattle.wanted.proofs.report_fits.Reads as reads
 use Rattle.wanted.proofs.report_fits.Lts as lts
 use Rattle.books.proofs.book_lowers.Reads as book-lowers-reads
-use Rattle.fields.proofs.wide.Reads as wide-reads
+use Rattle.tables.proofs.wide.Reads as wide-reads
 
 wide-requires : tie.Need-wide-requires
 wide-requires c κs = search needs
