@@ -11,7 +11,7 @@ ghost use Rattle.rules.specs.Closing.{closes, withoutBook, closedBook, closingT
 ghost use Rattle.rules.specs.Sent.{closedSends, closingSent};
 
 // The book of f is adopted.
-fn is_adopted(t: &[u8], f: u8) -> bool
+pub fn is_adopted(t: &[u8], f: u8) -> bool
     requires { ⌜ Whole (now t) ⌝ }
     requires { ⌜ (1 ≤ f) × (f ≤ 32) ⌝ }
     ensures { λ r. ⌜ r ≡ eqb (isAdopted (now (t .entry)) f) 1 ⌝ }

@@ -11,7 +11,7 @@ use Rattle.tables.proofs.Writes.{byte-part, write-part-set}
 use Rattle.tables.proofs.Changes.{change-more, length-change}
 use Rattle.rules.specs.Books.{clearRow, clearedColumn, lowerRow, loweredColumn}
 
-clear-keeps : (v : ℕ) (m : List ℕ) (i : ℕ) → length m ≡ 8 → length (clearRow v m i) ≡ 8
+pub clear-keeps : (v : ℕ) (m : List ℕ) (i : ℕ) → length m ≡ 8 → length (clearRow v m i) ≡ 8
 unfolding clearRow
 clear-keeps v m i l = length-set m v 0 ∙ l
 

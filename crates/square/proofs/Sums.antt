@@ -12,7 +12,7 @@ use Rattle.rules.specs.Books.{total, column}
 use Rattle.square.specs.Square.{liveOf, rowAt, rowsSum, cellAt, wholeRow}
 
 -- n and then l bytes
-sum-add : (m : List ℕ) (k w n l : ℕ) → sumBytes m k w (n + l) ≡ sumBytes m k w n + sumBytes m (k + w * n) w l
+pub sum-add : (m : List ℕ) (k w n l : ℕ) → sumBytes m k w (n + l) ≡ sumBytes m k w n + sumBytes m (k + w * n) w l
 unfolding sumBytes
 sum-add m k w zero l =
     let z : k + w * 0 ≡ k = omega arith in
@@ -61,7 +61,7 @@ live-row b (suc (suc (suc (suc (suc (suc zero)))))) h = refl
 live-row b (suc (suc (suc (suc (suc (suc (suc zero))))))) h = refl
 live-row b (suc (suc (suc (suc (suc (suc (suc (suc n)))))))) h = absurd (omega arith)
 
-sum-last : (m : List ℕ) (k w n : ℕ) → sumBytes m k w (suc n) ≡ sumBytes m k w n + byte m (k + w * n)
+pub sum-last : (m : List ℕ) (k w n : ℕ) → sumBytes m k w (suc n) ≡ sumBytes m k w n + byte m (k + w * n)
 unfolding sumBytes
 sum-last m k w n =
     let z : n + 1 ≡ suc n = omega arith in
