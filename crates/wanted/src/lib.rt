@@ -98,7 +98,7 @@ fn report_fits(t: &[u8], f: u8, v: u8, cs: [u8; 8]) -> bool
 }
 
 // 1 publish.
-fn publish_says(t: &[u8], f: u8, k: u8) -> u8
+pub fn publish_says(t: &[u8], f: u8, k: u8) -> u8
     requires { ⌜ Whole (now t) ⌝ }
     requires { ⌜ (1 ≤ f) × (f ≤ 32) ⌝ }
     ensures { λ r. ⌜ r ≡ deliverSays (now (t .entry)) (publish f k) ⌝ }
@@ -116,7 +116,7 @@ fn publish_says(t: &[u8], f: u8, k: u8) -> u8
 }
 
 // 2 published.
-fn published_says(t: &[u8], f: u8, k: u8) -> u8
+pub fn published_says(t: &[u8], f: u8, k: u8) -> u8
     requires { ⌜ Whole (now t) ⌝ }
     ensures { λ r. ⌜ r ≡ deliverSays (now (t .entry)) (published f k) ⌝ }
 {
@@ -133,7 +133,7 @@ fn published_says(t: &[u8], f: u8, k: u8) -> u8
 }
 
 // 3 transit.
-fn transit_says(t: &[u8], f: u8, k: u8, v: u8, j: u8) -> u8
+pub fn transit_says(t: &[u8], f: u8, k: u8, v: u8, j: u8) -> u8
     requires { ⌜ Whole (now t) ⌝ }
     requires { ⌜ ((1 ≤ f) × (f ≤ 32)) × ((v < 8) × (j < 8)) ⌝ }
     ensures { λ r. ⌜ r ≡ deliverSays (now (t .entry)) (transit f k v j) ⌝ }
@@ -160,7 +160,7 @@ fn transit_says(t: &[u8], f: u8, k: u8, v: u8, j: u8) -> u8
 }
 
 // 4 granted; 5 denied wants the same.
-fn granted_says(t: &[u8], f: u8, k: u8, v: u8, j: u8) -> u8
+pub fn granted_says(t: &[u8], f: u8, k: u8, v: u8, j: u8) -> u8
     requires { ⌜ Whole (now t) ⌝ }
     ensures { λ r. ⌜ r ≡ deliverSays (now (t .entry)) (granted f k v j) ⌝ }
 {
@@ -177,7 +177,7 @@ fn granted_says(t: &[u8], f: u8, k: u8, v: u8, j: u8) -> u8
 }
 
 // 6 task.
-fn task_says(t: &[u8], f: u8, k: u8, v: u8, j: u8) -> u8
+pub fn task_says(t: &[u8], f: u8, k: u8, v: u8, j: u8) -> u8
     requires { ⌜ Whole (now t) ⌝ }
     requires { ⌜ ((1 ≤ f) × (f ≤ 32)) × ((v < 8) × (j < 8)) ⌝ }
     ensures { λ r. ⌜ r ≡ deliverSays (now (t .entry)) (task f k v j) ⌝ }
@@ -201,7 +201,7 @@ fn task_says(t: &[u8], f: u8, k: u8, v: u8, j: u8) -> u8
 }
 
 // 7 report.
-fn report_says(t: &[u8], f: u8, v: u8, cs: [u8; 8]) -> u8
+pub fn report_says(t: &[u8], f: u8, v: u8, cs: [u8; 8]) -> u8
     requires { ⌜ Whole (now t) ⌝ }
     requires { ⌜ ((1 ≤ f) × (f ≤ 32)) × (v < 8) ⌝ }
     ensures { λ r. ⌜ r ≡ deliverSays (now (t .entry)) (report f v cs) ⌝ }
@@ -222,7 +222,7 @@ fn report_says(t: &[u8], f: u8, v: u8, cs: [u8; 8]) -> u8
 }
 
 // 8 release.
-fn release_says(t: &[u8], f: u8) -> u8
+pub fn release_says(t: &[u8], f: u8) -> u8
     requires { ⌜ Whole (now t) ⌝ }
     ensures { λ r. ⌜ r ≡ deliverSays (now (t .entry)) (release f) ⌝ }
 {
@@ -239,7 +239,7 @@ fn release_says(t: &[u8], f: u8) -> u8
 }
 
 // 9 ghost-ended.
-fn ghost_ended_says(t: &[u8], f: u8, g: u8) -> u8
+pub fn ghost_ended_says(t: &[u8], f: u8, g: u8) -> u8
     requires { ⌜ Whole (now t) ⌝ }
     requires { ⌜ (1 ≤ f) × (f ≤ 32) ⌝ }
     ensures { λ r. ⌜ r ≡ deliverSays (now (t .entry)) (ghostEnded f g) ⌝ }
@@ -254,7 +254,7 @@ fn ghost_ended_says(t: &[u8], f: u8, g: u8) -> u8
 }
 
 // 10 count-dropped.
-fn count_dropped_says(t: &[u8], f: u8, k: u8, v: u8, j: u8, n: u8) -> u8
+pub fn count_dropped_says(t: &[u8], f: u8, k: u8, v: u8, j: u8, n: u8) -> u8
     requires { ⌜ Whole (now t) ⌝ }
     requires { ⌜ ((1 ≤ f) × (f ≤ 32)) × ((v < 8) × (j < 8)) ⌝ }
     ensures { λ r. ⌜ r ≡ deliverSays (now (t .entry)) (countDropped f k v j n) ⌝ }
@@ -269,7 +269,7 @@ fn count_dropped_says(t: &[u8], f: u8, k: u8, v: u8, j: u8, n: u8) -> u8
 }
 
 // 11 dropped.
-fn dropped_says(t: &[u8], f: u8, k: u8, v: u8, j: u8, n: u8) -> u8
+pub fn dropped_says(t: &[u8], f: u8, k: u8, v: u8, j: u8, n: u8) -> u8
     requires { ⌜ Whole (now t) ⌝ }
     requires { ⌜ ((1 ≤ f) × (f ≤ 32)) × ((v < 8) × (j < 8)) ⌝ }
     ensures { λ r. ⌜ r ≡ deliverSays (now (t .entry)) (dropped f k v j n) ⌝ }
