@@ -1,2 +1,3 @@
 pub mod Orphans
 pub mod Marks
+pub mod Taken

@@ -11,8 +11,12 @@ ghost use Rattle.tables.specs.Layout.{Whole};
 ghost use Rattle.rules.specs.Fields.{finishesMade};
 ghost use Rattle.rules.specs.Action.{adopt};
 ghost use Rattle.rules.specs.Adopt.{orphan, adoptBook, withGhosts, adoptStep};
-ghost use Rattle.rules.specs.Refusals.{firstOf, stepRefusals};
+ghost use Rattle.rules.specs.Refusals.{stepAnswer};
+ghost use Rattle.rules.specs.Step.{stepAfter};
+ghost use Rattle.rules.specs.Sent.{sentBy};
+ghost use Rattle.answers.specs.Answers.{answered};
 ghost use Rattle.adopt.specs.Ghosts.{isGhost, newGhosts};
+use answers::Answer;
 use tables::Tables;
 use tables::wide;
 
@@ -124,7 +128,7 @@ fn clear_due(t: &mut [u8], a: usize)
 }
 
 // Finish f adopts.
-pub fn adopt(t: &mut [u8], f: u8)
+fn adopt(t: &mut [u8], f: u8)
     requires { ⌜ Whole (now t) ⌝ }
     requires { ⌜ (1 ≤ f) × (f ≤ 32) ⌝ }
     ensures { λ _. ⌜ now (t .exit) ≡ adoptStep (now (t .entry)) f ⌝ }
@@ -137,10 +141,10 @@ pub fn adopt(t: &mut [u8], f: u8)
 }
 
 // Why f may not adopt; 0: it may.
-pub fn adopt_refusal(t: &[u8], f: u8) -> u8
+fn adopt_refusal(t: &[u8], f: u8) -> u8
     requires { ⌜ Whole (now t) ⌝ }
     requires { ⌜ finishesMade (now t) ≤ 32 ⌝ }
-    ensures { λ r. ⌜ r ≡ firstOf (stepRefusals (now (t .entry)) (adopt f)) ⌝ }
+    ensures { λ r. ⌜ r ≡ stepAnswer (now (t .entry)) (adopt f) ⌝ }
 {
     if f < 1 {
         return 2;
@@ -156,4 +160,18 @@ pub fn adopt_refusal(t: &[u8], f: u8) -> u8
         return 4;
     }
     0
+}
+
+// Finish f adopts, or the adopt is refused and nothing changes.
+pub fn adopt_orphans(t: &mut [u8], f: u8) -> Answer
+    requires { ⌜ Whole (now t) ⌝ }
+    requires { ⌜ finishesMade (now t) ≤ 32 ⌝ }
+    ensures { λ r. ⌜ (r ≡ answered (stepAnswer (now (t .entry)) (adopt f)) (sentBy (now (t .entry)) (adopt f))) × (now (t .exit) ≡ stepAfter (now (t .entry)) (adopt f)) ⌝ }
+{
+    let no = adopt_refusal(t, f);
+    if no != 0 {
+        return Answer::Refused(no);
+    }
+    adopt(t, f);
+    Answer::Done(0)
 }

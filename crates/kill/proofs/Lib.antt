@@ -1,3 +1,4 @@
 pub mod Rows
 pub mod Goes
 pub mod Turns
+pub mod Taken

@@ -9,13 +9,17 @@ ghost use Rattle.tables.specs.Bytes.{byte, part, write};
 ghost use Rattle.tables.specs.Bits.{marked, withMark};
 ghost use Rattle.tables.specs.Walks.{every, someOf, changeParts};
 ghost use Rattle.tables.specs.Layout.{Whole};
-ghost use Rattle.rules.specs.Fields.{deadMask};
+ghost use Rattle.rules.specs.Fields.{places, deadMask};
 ghost use Rattle.rules.specs.Action.{kill};
 ghost use Rattle.rules.specs.Books.{column};
 ghost use Rattle.rules.specs.Messages.{goesTo, messageIn};
 ghost use Rattle.rules.specs.Kill.{losesTask, killTask, losesFinish, killFinish, killBook, killLocal, killSlot, killStep};
-ghost use Rattle.rules.specs.Refusals.{firstOf, stepRefusals};
+ghost use Rattle.rules.specs.Refusals.{stepAnswer};
+ghost use Rattle.rules.specs.Step.{stepAfter};
+ghost use Rattle.rules.specs.Sent.{sentBy};
+ghost use Rattle.answers.specs.Answers.{answered};
 ghost use Rattle.kill.specs.Tags.{goesByTag, fallsDue};
+use answers::Answer;
 use tables::Tables;
 use tables::wide;
 
@@ -256,7 +260,7 @@ fn mark_dead(t: &mut [u8], p: u8)
 }
 
 // The place is lost.
-pub fn kill(t: &mut [u8], p: u8)
+fn kill(t: &mut [u8], p: u8)
     requires { ⌜ Whole (now t) ⌝ }
     requires { ⌜ p < 8 ⌝ }
     ensures { λ _. ⌜ now (t .exit) ≡ killStep (now (t .entry)) p ⌝ }
@@ -282,9 +286,9 @@ fn is_spared(dead: u8, p: u8) -> bool
 }
 
 // Why the place may not be killed; 0: it may.
-pub fn kill_refusal(t: &[u8], p: u8) -> u8
+fn kill_refusal(t: &[u8], p: u8) -> u8
     requires { ⌜ Whole (now t) ⌝ }
-    ensures { λ r. ⌜ r ≡ firstOf (stepRefusals (now (t .entry)) (kill p)) ⌝ }
+    ensures { λ r. ⌜ r ≡ stepAnswer (now (t .entry)) (kill p) ⌝ }
 {
     if t[0] <= p {
         return 2;
@@ -293,4 +297,18 @@ pub fn kill_refusal(t: &[u8], p: u8) -> u8
         return 3;
     }
     0
+}
+
+// Place p is lost, or the kill is refused and nothing changes.
+pub fn kill_place(t: &mut [u8], p: u8) -> Answer
+    requires { ⌜ Whole (now t) ⌝ }
+    requires { ⌜ places (now t) ≤ 8 ⌝ }
+    ensures { λ r. ⌜ (r ≡ answered (stepAnswer (now (t .entry)) (kill p)) (sentBy (now (t .entry)) (kill p))) × (now (t .exit) ≡ stepAfter (now (t .entry)) (kill p)) ⌝ }
+{
+    let no = kill_refusal(t, p);
+    if no != 0 {
+        return Answer::Refused(no);
+    }
+    kill(t, p);
+    Answer::Done(0)
 }
