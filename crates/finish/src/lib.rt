@@ -11,6 +11,9 @@ ghost use Rattle.rules.specs.Step.{after};
 ghost use Rattle.rules.specs.Quiet.{runningTasks, messagesInFlight, quiet};
 ghost use Rattle.finish.specs.Readings.{reading, statusOf};
 
+// What a reading answers where the tables have another length: outside the range of every reading.
+const NO_READING: u32 = 4294967295;
+
 // Takes the step of a record, or refuses it and changes nothing; answers 0 or the number that refuses.
 #[no_mangle]
 pub extern "C" fn finish_step(t: &mut [u8], action: &[u8]) -> u32
@@ -56,7 +59,7 @@ pub extern "C" fn finish_running_tasks(t: &[u8]) -> u32
     ensures { λ r. ⌜ r ≡ reading (now (t .entry)) (runningTasks (now (t .entry))) ⌝ }
 {
     if t.len() != Tables::BYTES {
-        return 4294967295;
+        return NO_READING;
     }
     messages::running_tasks(t)
 }
@@ -67,7 +70,7 @@ pub extern "C" fn finish_messages_in_flight(t: &[u8]) -> u32
     ensures { λ r. ⌜ r ≡ reading (now (t .entry)) (messagesInFlight (now (t .entry))) ⌝ }
 {
     if t.len() != Tables::BYTES {
-        return 4294967295;
+        return NO_READING;
     }
     messages::messages_in_flight(t)
 }
@@ -91,7 +94,7 @@ pub extern "C" fn finish_status(t: &[u8], finish: u32) -> u32
     ensures { λ r. ⌜ r ≡ reading (now (t .entry)) (statusOf (now (t .entry)) finish) ⌝ }
 {
     if t.len() != Tables::BYTES {
-        return 4294967295;
+        return NO_READING;
     }
     status_of(t, finish)
 }
@@ -112,7 +115,7 @@ pub extern "C" fn finish_quiet(t: &[u8]) -> u32
     ensures { λ r. ⌜ r ≡ reading (now (t .entry)) (digit (quiet (now (t .entry)))) ⌝ }
 {
     if t.len() != Tables::BYTES {
-        return 4294967295;
+        return NO_READING;
     }
     quiet_one(t)
 }
