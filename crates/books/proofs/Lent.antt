@@ -3,12 +3,11 @@ use mathlib.Core.Path.{_≡_, ap, _∙_}
 use mathlib.Core.List.{List, _++_}
 use Prim.Native.Nat.{ℕ, _+_, _-_, _*_, _≤_}
 use native.Mathlib.Omega.{arith}
-use lib.ListN.{length, drop, take, replicate, length-replicate}
+use lib.ListN.{length, drop, take}
 use Rattle.tables.specs.Bytes.{part, write}
 use Rattle.tables.specs.Layout.{Whole, bookRow}
 use Rattle.tables.proofs.Writes.{part-lent, part-changed, length-part}
 use Rattle.rules.specs.Books.{bookOf, withBook, clearedColumn, loweredColumn}
-use Rattle.rules.specs.Closing.{withoutBook}
 use Rattle.rules.specs.Cancel.{cancelled}
 use Rattle.rules.specs.Deliver.{newBook}
 use Rattle.square.proofs.Columns.{cleared-length, lowered-length}
@@ -45,10 +44,3 @@ module _ (t : List ℕ) (f a : ℕ) (place : a ≡ 8 * bookRow f) where
     pub book-new : (h q : ℕ) (p : List ℕ) → p ≡ newBook h q
         → take a t ++ (p ++ drop (a + 144 - a) (drop a t)) ≡ withBook t f (newBook h q)
     book-new h q p e = written (λ b. newBook h q) p e (new-length h q)
-
-    pub book-cleared : (p : List ℕ) → p ≡ replicate (length (take (a + 144 - a) (drop a t))) 0
-        → take a t ++ (p ++ drop (a + 144 - a) (drop a t)) ≡ withoutBook t f
-    unfolding withoutBook
-    book-cleared p e =
-        written (λ b. replicate (length b) 0) p e (length-replicate {A = ℕ} (length (bookOf t f)) 0 ∙ book-length)
-        ∙ ap (λ (n : ℕ). withBook t f (replicate n 0)) book-length

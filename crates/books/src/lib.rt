@@ -49,9 +49,7 @@ pub fn clear_book(t: &mut [u8], f: usize)
     requires { ⌜ (1 ≤ f) × (f ≤ 32) ⌝ }
     ensures { λ _. ⌜ now (t .exit) ≡ withoutBook (now (t .entry)) f ⌝ }
 {
-    let a = Tables::book(f);
-    let e = a + 144;
-    tables::clear(&mut t[a..e]);
+    tables::clear_part(t, Tables::book(f), 144);
 }
 
 // The closing test of the book of f.
@@ -74,7 +72,7 @@ pub fn in_repair(t: &[u8], f: usize) -> bool
     let a = Tables::book(f);
     let e = a + 144;
     let d = t[1];
-    square::under_repair(&t[a..e], d)
+    repair::under_repair(&t[a..e], d)
 }
 
 // The same for a finish number as it stands in the tables.

@@ -1,127 +1,20 @@
-// The step end: of a main task, whose finish is released or waits for release, and of another task, whose place reports when it was the last there.
+// The step end: of a main task, whose finish is released or waits for release, and of another task, as `reporting` has it.
 use answers::Answer;
-use tables::Tables;
 ghost use mathlib.Core.Path.{_≡_};
 ghost use mathlib.Core.Bool.{cond, true, false};
-ghost use Prim.Native.Nat.{_+_, _-_, _*_, _≤_, _<_};
+ghost use Prim.Native.Nat.{_<_};
 ghost use lib.Dec.{eqb};
-ghost use lib.ListN.{set};
-ghost use Rattle.tables.specs.Bytes.{write};
-ghost use Rattle.tables.specs.Layout.{Whole, localRow};
+ghost use Rattle.tables.specs.Layout.{Whole};
 ghost use Rattle.rules.specs.Action.{end};
-ghost use Rattle.rules.specs.Fields.{taskFinish, taskAt, isPublished, opener, mayRun, localLive, localLivePlace, reportedPlace};
-ghost use Rattle.rules.specs.Messages.{noCounts, lowestEmpty, slotsFull};
-ghost use Rattle.rules.specs.End.{endUnpublished, endPublished, endMain, lessEach, receivedRow, reportedRow, endLast, endEarlier, endOther, endSends, endMainWanted, eachAtMost, endOtherWanted, endWanted};
+ghost use Rattle.rules.specs.Fields.{taskFinish, taskAt, isPublished, opener, mayRun};
+ghost use Rattle.rules.specs.Messages.{slotsFull};
+ghost use Rattle.rules.specs.End.{endUnpublished, endPublished, endMain, endSends, endMainWanted, endWanted};
 ghost use Rattle.rules.specs.Refusals.{noRoom, stepAnswer};
 ghost use Rattle.rules.specs.Step.{step, stepAfter};
 ghost use Rattle.rules.specs.Sent.{sentBy};
 ghost use Rattle.answers.specs.Answers.{answered};
-ghost use Rattle.ending.specs.Inside.{LocalBook, EndsInside};
-
-// Where the local book of finish f at place p begins.
-fn local_at(f: u8, p: u8) -> usize
-    requires { ⌜ LocalBook f p ⌝ }
-    ensures { λ r. ⌜ (r ≡ 8 * localRow f p) × (r + 24 ≤ 13056) ⌝ }
-{
-    Tables::local(tables::wide(f), tables::wide(p))
-}
-
-// The number of live tasks of finish f at place p.
-fn local_live(t: &[u8], f: u8, p: u8) -> u8
-    requires { ⌜ Whole (now t) × LocalBook f p ⌝ }
-    ensures { λ r. ⌜ r ≡ localLive (now (t .entry)) f p ⌝ }
-{
-    let at = local_at(f, p);
-    t[at + 16]
-}
-
-// What place p received of finish f, by sender.
-fn received_row(t: &[u8], f: u8, p: u8) -> [u8; 8]
-    requires { ⌜ Whole (now t) × LocalBook f p ⌝ }
-    ensures { λ r. ⌜ r ≡ receivedRow (now (t .entry)) f p ⌝ }
-{
-    let at = local_at(f, p);
-    tables::row_of(t, at)
-}
-
-// What place p reported of finish f, by sender.
-fn reported_row(t: &[u8], f: u8, p: u8) -> [u8; 8]
-    requires { ⌜ Whole (now t) × LocalBook f p ⌝ }
-    ensures { λ r. ⌜ r ≡ reportedRow (now (t .entry)) f p ⌝ }
-{
-    let at = local_at(f, p);
-    tables::row_of(t, at + 8)
-}
-
-// Sets the number of live tasks of finish f at place p.
-fn put_local_live(t: &mut [u8], f: u8, p: u8, n: u8)
-    requires { ⌜ Whole (now t) × LocalBook f p ⌝ }
-    ensures { λ _. ⌜ now (t .exit) ≡ set (now (t .entry)) (localLivePlace f p) n ⌝ }
-{
-    let at = local_at(f, p);
-    t[at + 16] = n;
-}
-
-// Writes what place p reported of finish f.
-fn put_reported(t: &mut [u8], f: u8, p: u8, row: [u8; 8])
-    requires { ⌜ Whole (now t) × LocalBook f p ⌝ }
-    ensures { λ _. ⌜ now (t .exit) ≡ write (now (t .entry)) (reportedPlace f p 0) row ⌝ }
-{
-    let at = local_at(f, p);
-    tables::put_row(t, at + 8, row);
-}
-
-// x less y, and not below 0.
-fn less(x: u8, y: u8) -> u8
-    ensures { λ r. ⌜ r ≡ x - y ⌝ }
-{
-    if x < y {
-        return 0;
-    }
-    x - y
-}
-
-// The same for each sender.
-fn less_each(x: [u8; 8], y: [u8; 8]) -> [u8; 8]
-    ensures { λ r. ⌜ r ≡ lessEach x y ⌝ }
-{
-    [
-        less(x[0], y[0]),
-        less(x[1], y[1]),
-        less(x[2], y[2]),
-        less(x[3], y[3]),
-        less(x[4], y[4]),
-        less(x[5], y[5]),
-        less(x[6], y[6]),
-        less(x[7], y[7]),
-    ]
-}
-
-// Each count of x is at most that of y.
-fn at_most(x: [u8; 8], y: [u8; 8]) -> bool
-    ensures { λ r. ⌜ r ≡ eachAtMost x y ⌝ }
-{
-    let mut n: usize = 8;
-    while 0 < n {
-        n -= 1;
-        if y[n] < x[n] {
-            return false;
-        }
-    }
-    true
-}
-
-// Count 1 for place h, and none for another.
-fn one_at(h: u8) -> [u8; 8]
-    ensures { λ r. ⌜ r ≡ set noCounts h 1 ⌝ }
-{
-    let mut counts: [u8; 8] = [0, 0, 0, 0, 0, 0, 0, 0];
-    if 8 <= h {
-        return counts;
-    }
-    counts[tables::wide(h)] = 1;
-    counts
-}
+ghost use Rattle.locals.specs.Inside.{LocalBook};
+ghost use Rattle.ending.specs.Inside.{EndsInside};
 
 // The end of task k sends a message.
 fn end_sends(t: &[u8], k: u8) -> bool
@@ -134,7 +27,7 @@ fn end_sends(t: &[u8], k: u8) -> bool
     if fields::is_main(t, k) {
         return fields::finish_byte(t, f, 4) != 0;
     }
-    local_live(t, f, p) == 1
+    counts::local_byte(t, f, p, 16) == 1
 }
 
 // No room for a message that the end of task k sends.
@@ -171,28 +64,6 @@ fn main_wanted(t: &[u8], f: u8) -> bool
     opener_wanted(t, f)
 }
 
-// The last task at its place has no more reported than received.
-fn last_wanted(t: &[u8], f: u8, p: u8) -> bool
-    requires { ⌜ Whole (now t) × LocalBook f p ⌝ }
-    ensures { λ r. ⌜ r ≡ cond (eqb (localLive (now (t .entry)) f p) 1) (eachAtMost (reportedRow (now (t .entry)) f p) (receivedRow (now (t .entry)) f p)) true ⌝ }
-{
-    if local_live(t, f, p) != 1 {
-        return true;
-    }
-    at_most(reported_row(t, f, p), received_row(t, f, p))
-}
-
-// What the end of another task of finish f at place p wants.
-fn other_wanted(t: &[u8], f: u8, p: u8) -> bool
-    requires { ⌜ Whole (now t) × LocalBook f p ⌝ }
-    ensures { λ r. ⌜ r ≡ endOtherWanted (now (t .entry)) f p ⌝ }
-{
-    if local_live(t, f, p) < 1 {
-        return false;
-    }
-    last_wanted(t, f, p)
-}
-
 // What the end of task k wants.
 fn is_wanted(t: &[u8], k: u8) -> bool
     requires { ⌜ Whole (now t) ⌝ }
@@ -204,7 +75,7 @@ fn is_wanted(t: &[u8], k: u8) -> bool
     if fields::is_main(t, k) {
         return main_wanted(t, f);
     }
-    other_wanted(t, f, p)
+    reporting::other_wanted(t, f, p)
 }
 
 // The number that refuses task k to end, or 0.
@@ -245,7 +116,7 @@ fn end_published(t: &mut [u8], k: u8, f: u8, h: u8, s: usize)
     requires { ⌜ s < 128 ⌝ }
     ensures { λ _. ⌜ now (t .exit) ≡ endPublished (now (t .entry)) k f h s ⌝ }
 {
-    let counts = one_at(h);
+    let counts = locals::one_at(h);
     fields::put_status(t, k, 7);
     fields::put_finish_status(t, f, 3);
     messages::put_report(t, s, f, h, counts);
@@ -266,44 +137,6 @@ fn end_main(t: &mut [u8], k: u8, f: u8)
     end_published(t, k, f, h, s);
 }
 
-// Task k, the last of finish f at place p, ends: the place reports.
-fn end_last(t: &mut [u8], k: u8, f: u8, p: u8, s: usize)
-    requires { ⌜ Whole (now t) × LocalBook f p ⌝ }
-    requires { ⌜ s < 128 ⌝ }
-    ensures { λ _. ⌜ now (t .exit) ≡ endLast (now (t .entry)) k f p s ⌝ }
-{
-    let received = received_row(t, f, p);
-    let counts = less_each(received, reported_row(t, f, p));
-    fields::put_status(t, k, 7);
-    put_local_live(t, f, p, 0);
-    put_reported(t, f, p, received);
-    messages::put_report(t, s, f, p, counts);
-}
-
-// Task k of finish f ends, and others stay at its place p.
-fn end_earlier(t: &mut [u8], k: u8, f: u8, p: u8)
-    requires { ⌜ Whole (now t) × LocalBook f p ⌝ }
-    ensures { λ _. ⌜ now (t .exit) ≡ endEarlier (now (t .entry)) k f p ⌝ }
-{
-    let n = less(local_live(t, f, p), 1);
-    fields::put_status(t, k, 7);
-    put_local_live(t, f, p, n);
-}
-
-// Task k of finish f at place p, no main task, ends.
-fn end_other(t: &mut [u8], k: u8, f: u8, p: u8)
-    requires { ⌜ Whole (now t) × LocalBook f p ⌝ }
-    requires { ⌜ (eqb (localLive (now t) f p) 1 ≡ true → slotsFull (now t) ≡ false) ⌝ }
-    ensures { λ _. ⌜ now (t .exit) ≡ endOther (now (t .entry)) k f p ⌝ }
-{
-    if local_live(t, f, p) != 1 {
-        end_earlier(t, k, f, p);
-        return;
-    }
-    let s = messages::free_slot(t);
-    end_last(t, k, f, p, s);
-}
-
 fn end_apply(t: &mut [u8], k: u8)
     requires { ⌜ Whole (now t) ⌝ }
     requires { ⌜ EndsInside (now t) k ⌝ }
@@ -316,7 +149,7 @@ fn end_apply(t: &mut [u8], k: u8)
         end_main(t, k, f);
         return;
     }
-    end_other(t, k, f, p);
+    reporting::end_other(t, k, f, p);
 }
 
 // The tag of the message that the end of task k sends, or 0.

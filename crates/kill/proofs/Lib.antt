@@ -1,4 +1,2 @@
-pub mod Rows
-pub mod Goes
 pub mod Turns
 pub mod Taken

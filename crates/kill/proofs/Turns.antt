@@ -15,7 +15,7 @@ use Rattle.tables.proofs.Places.{task-place, book-place, local-place, slot-plac
 use Rattle.tables.proofs.Writes.{byte-part}
 use Rattle.rules.specs.Messages.{messageIn, goesTo}
 use Rattle.rules.specs.Kill.{killTask, killFinish, killBook, killLocal, killSlot}
-use Rattle.kill.proofs.Goes.{slot-same}
+use Rattle.loss.proofs.Goes.{slot-same}
 
 pub tasks-more : (p n j at : ℕ) (t u u' : List ℕ) → j < n → n < 256 → Whole t → u ≡ changeParts (killTask p) 8 1 j 8 t
     → u' ≡ write u at (killTask p (part u at 8) 0) → at ≡ 8 * taskRow (1 + j) → u' ≡ changeParts (killTask p) 8 1 (j + 1) 8 t

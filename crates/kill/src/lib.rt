@@ -1,65 +1,24 @@
-// The step kill: what the loss of a place does to each row, and when it is refused.
+// The step kill: all rows of each table walked over with what the loss of a place does to one, and when it is refused.
 ghost use mathlib.Core.Path.{_≡_};
-ghost use mathlib.Core.Bool.{not};
 ghost use mathlib.Core.List.{[], _∷_};
-ghost use Prim.Native.Nat.{_+_, _*_, _≤_, _<_};
+ghost use Prim.Native.Nat.{_≤_, _<_};
 ghost use lib.Dec.{eqb};
-ghost use lib.ListN.{length, set, replicate};
-ghost use Rattle.tables.specs.Bytes.{byte, part, write};
+ghost use lib.ListN.{set};
 ghost use Rattle.tables.specs.Bits.{marked, withMark};
-ghost use Rattle.tables.specs.Walks.{every, someOf, changeParts};
+ghost use Rattle.tables.specs.Walks.{someOf, changeParts};
 ghost use Rattle.tables.specs.Layout.{Whole};
 ghost use Rattle.rules.specs.Fields.{places, deadMask};
 ghost use Rattle.rules.specs.Action.{kill};
-ghost use Rattle.rules.specs.Books.{column};
-ghost use Rattle.rules.specs.Messages.{goesTo, messageIn};
-ghost use Rattle.rules.specs.Kill.{losesTask, killTask, losesFinish, killFinish, killBook, killLocal, killSlot, killStep};
+ghost use Rattle.rules.specs.Kill.{killTask, killFinish, killBook, killLocal, killSlot, killStep};
 ghost use Rattle.rules.specs.Refusals.{stepAnswer};
 ghost use Rattle.rules.specs.Step.{stepAfter};
 ghost use Rattle.rules.specs.Sent.{sentBy};
 ghost use Rattle.answers.specs.Answers.{answered};
-ghost use Rattle.kill.specs.Tags.{goesByTag, fallsDue};
 use answers::Answer;
 use tables::Tables;
 use tables::wide;
 
-fn is_either(x: u8, a: u8, b: u8) -> bool
-    ensures { λ r. ⌜ r ≡ someOf (eqb x a ∷ eqb x b ∷ []) ⌝ }
-{
-    if x == a {
-        return true;
-    }
-    x == b
-}
-
-fn is_both(place: u8, p: u8, status: u8, a: u8, b: u8) -> bool
-    ensures { λ r. ⌜ r ≡ every (eqb place p ∷ someOf (eqb status a ∷ eqb status b ∷ []) ∷ []) ⌝ }
-{
-    if place == p {
-        return is_either(status, a, b);
-    }
-    false
-}
-
-fn loses_task(p: u8, from: u8, at: u8, status: u8) -> bool
-    ensures { λ r. ⌜ r ≡ losesTask p from at status ⌝ }
-{
-    if is_both(at, p, status, 5, 6) {
-        return true;
-    }
-    is_both(from, p, status, 1, 2)
-}
-
-fn kill_task(t: &mut [u8], at: usize, p: u8)
-    requires { ⌜ at + 8 ≤ length (now t) ⌝ }
-    ensures { λ _. ⌜ now (t .exit) ≡ write (now (t .entry)) at (killTask p (part (now (t .entry)) at 8) 0) ⌝ }
-{
-    if loses_task(p, t[at], t[at + 1], t[at + 3]) {
-        t[at + 3] = 8;
-        return;
-    }
-}
-
+// The rows of n tasks.
 fn kill_tasks(t: &mut [u8], p: u8, n: usize)
     requires { ⌜ Whole (now t) ⌝ }
     requires { ⌜ n < 256 ⌝ }
@@ -67,33 +26,12 @@ fn kill_tasks(t: &mut [u8], p: u8, n: usize)
 {
     let mut j: usize = 0;
     while j < n {
-        kill_task(t, Tables::task(1 + j), p);
+        loss::kill_task(t, Tables::task(1 + j), p);
         j += 1;
     }
 }
 
-fn loses_finish(p: u8, home: u8, status: u8) -> bool
-    ensures { λ r. ⌜ r ≡ losesFinish p home status ⌝ }
-{
-    if home != p {
-        return false;
-    }
-    if status == 4 {
-        return false;
-    }
-    true
-}
-
-fn kill_finish(t: &mut [u8], at: usize, p: u8)
-    requires { ⌜ at + 8 ≤ length (now t) ⌝ }
-    ensures { λ _. ⌜ now (t .exit) ≡ write (now (t .entry)) at (killFinish p (part (now (t .entry)) at 8) 0) ⌝ }
-{
-    if loses_finish(p, t[at], t[at + 3]) {
-        t[at + 3] = 5;
-        return;
-    }
-}
-
+// The rows of n finishes.
 fn kill_finishes(t: &mut [u8], p: u8, n: usize)
     requires { ⌜ Whole (now t) ⌝ }
     requires { ⌜ n < 256 ⌝ }
@@ -101,56 +39,12 @@ fn kill_finishes(t: &mut [u8], p: u8, n: usize)
 {
     let mut j: usize = 0;
     while j < n {
-        kill_finish(t, Tables::ROW * (Tables::FIRST_FINISH + j), p);
+        loss::kill_finish(t, Tables::ROW * (Tables::FIRST_FINISH + j), p);
         j += 1;
     }
 }
 
-fn column_of(b: &[u8], v: usize) -> usize
-    requires { ⌜ (length (now b) ≡ 144) × (v < 8) ⌝ }
-    ensures { λ r. ⌜ r ≡ column (now (b .entry)) v ⌝ }
-{
-    wide(b[8 + v])
-        + wide(b[16 + v])
-        + wide(b[24 + v])
-        + wide(b[32 + v])
-        + wide(b[40 + v])
-        + wide(b[48 + v])
-        + wide(b[56 + v])
-        + wide(b[64 + v])
-}
-
-fn falls_due(b: &[u8], p: usize) -> bool
-    requires { ⌜ (length (now b) ≡ 144) × (p < 8) ⌝ }
-    ensures { λ r. ⌜ r ≡ fallsDue p (now (b .entry)) ⌝ }
-{
-    if b[0] != 1 {
-        return false;
-    }
-    if column_of(b, p) == 0 {
-        return false;
-    }
-    true
-}
-
-fn falls_due_at(t: &[u8], at: usize, p: usize) -> bool
-    requires { ⌜ (at + 144 ≤ length (now t)) × (p < 8) ⌝ }
-    ensures { λ r. ⌜ r ≡ fallsDue p (part (now (t .entry)) at 144) ⌝ }
-{
-    let b = tables::part_of(t, at, 144);
-    falls_due(b, p)
-}
-
-fn kill_book(t: &mut [u8], at: usize, p: usize)
-    requires { ⌜ (at + 144 ≤ length (now t)) × (p < 8) ⌝ }
-    ensures { λ _. ⌜ now (t .exit) ≡ write (now (t .entry)) at (killBook p (part (now (t .entry)) at 144) 0) ⌝ }
-{
-    if falls_due_at(t, at, p) {
-        t[at + 2] = 1;
-        return;
-    }
-}
-
+// The store books.
 fn kill_books(t: &mut [u8], p: usize)
     requires { ⌜ Whole (now t) ⌝ }
     requires { ⌜ p < 8 ⌝ }
@@ -158,99 +52,36 @@ fn kill_books(t: &mut [u8], p: usize)
 {
     let mut j: usize = 0;
     while j < 32 {
-        kill_book(t, Tables::book(1 + j), p);
+        loss::kill_book(t, Tables::book(1 + j), p);
         j += 1;
     }
 }
 
-fn clear_part(t: &mut [u8], a: usize, n: usize)
-    requires { ⌜ a + n ≤ length (now t) ⌝ }
-    ensures { λ _. ⌜ now (t .exit) ≡ write (now (t .entry)) a (replicate n 0) ⌝ }
-{
-    let e = a + n;
-    tables::clear(&mut t[a..e]);
-}
-
-fn kill_local(t: &mut [u8], at: usize, y: usize, p: usize)
-    requires { ⌜ at + 24 ≤ length (now t) ⌝ }
-    ensures { λ _. ⌜ now (t .exit) ≡ write (now (t .entry)) at (killLocal p (part (now (t .entry)) at 24) y) ⌝ }
-{
-    if y % 8 == p {
-        clear_part(t, at, 24);
-        return;
-    }
-}
-
+// The local books of all finishes at all places.
 fn kill_locals(t: &mut [u8], p: usize)
     requires { ⌜ Whole (now t) ⌝ }
     ensures { λ _. ⌜ now (t .exit) ≡ changeParts (killLocal p) 24 0 256 6912 (now (t .entry)) ⌝ }
 {
     let mut j: usize = 0;
     while j < 256 {
-        kill_local(t, Tables::local(1 + j / 8, j % 8), j, p);
+        loss::kill_local(t, Tables::local(1 + j / 8, j % 8), j, p);
         j += 1;
     }
 }
 
-fn goes_by_tag(tag: u8, home: u8, from: u8, to: u8) -> u8
-    ensures { λ r. ⌜ r ≡ goesByTag tag home from to ⌝ }
-{
-    if tag == 2 {
-        return home;
-    }
-    if tag == 4 {
-        return from;
-    }
-    if tag == 5 {
-        return from;
-    }
-    if tag == 6 {
-        return to;
-    }
-    if tag == 8 {
-        return home;
-    }
-    if tag == 10 {
-        return to;
-    }
-    8
-}
-
-fn goes_to(t: &[u8], at: usize) -> u8
-    requires { ⌜ Whole (now t) ⌝ }
-    requires { ⌜ at + 16 ≤ 15104 ⌝ }
-    ensures { λ r. ⌜ r ≡ goesTo (now (t .entry)) (messageIn (part (now (t .entry)) at 16)) ⌝ }
-    ensures { λ _. ⌜ byte (now (t .entry)) (at + 1) < 256 ⌝ }
-{
-    let f = wide(t[at + 1]);
-    let home = t[Tables::ROW * (Tables::TASKS + f)];
-    goes_by_tag(t[at], home, t[at + 3], t[at + 4])
-}
-
-fn kill_slot(t: &mut [u8], at: usize, p: u8)
-    requires { ⌜ Whole (now t) ⌝ }
-    requires { ⌜ at + 16 ≤ 15104 ⌝ }
-    ensures { λ _. ⌜ now (t .exit) ≡ write (now (t .entry)) at (killSlot (now (t .entry)) p (part (now (t .entry)) at 16) 0) ⌝ }
-    ensures { λ _. ⌜ byte (now (t .entry)) (at + 1) < 256 ⌝ }
-{
-    let to = goes_to(t, at);
-    if to == p {
-        clear_part(t, at, 16);
-        return;
-    }
-}
-
+// The slots.
 fn kill_slots(t: &mut [u8], p: u8)
     requires { ⌜ Whole (now t) ⌝ }
     ensures { λ _. ⌜ now (t .exit) ≡ changeParts (killSlot (now (t .entry)) p) 16 0 128 13056 (now (t .entry)) ⌝ }
 {
     let mut j: usize = 0;
     while j < 128 {
-        kill_slot(t, Tables::slot(j), p);
+        loss::kill_slot(t, Tables::slot(j), p);
         j += 1;
     }
 }
 
+// The place is in the dead mask.
 fn mark_dead(t: &mut [u8], p: u8)
     requires { ⌜ Whole (now t) ⌝ }
     requires { ⌜ p < 8 ⌝ }
@@ -276,6 +107,7 @@ fn kill(t: &mut [u8], p: u8)
     kill_tasks(t, p, tasks);
 }
 
+// Place 0 and a dead place are not killed.
 fn is_spared(dead: u8, p: u8) -> bool
     ensures { λ r. ⌜ r ≡ someOf (eqb p 0 ∷ marked dead p ∷ []) ⌝ }
 {

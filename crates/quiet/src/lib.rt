@@ -14,7 +14,7 @@ fn repairs(t: &[u8], at: usize, d: u8) -> bool
     ensures { λ r. ⌜ r ≡ underRepair d (take 144 (drop at (now (t .entry)))) ⌝ }
 {
     let e = at + 144;
-    square::under_repair(&t[at..e], d)
+    repair::under_repair(&t[at..e], d)
 }
 
 fn owing(t: &[u8], at: usize, ps: u8, d: u8) -> bool
@@ -22,7 +22,7 @@ fn owing(t: &[u8], at: usize, ps: u8, d: u8) -> bool
     ensures { λ r. ⌜ r ≡ owes ps d (take 144 (drop at (now (t .entry)))) ⌝ }
 {
     let e = at + 144;
-    square::owes(&t[at..e], ps, d)
+    repair::owes(&t[at..e], ps, d)
 }
 
 // The book of f, which stands at this place: not present, or not under repair and with no count owed.

@@ -1,2 +1,1 @@
-mod Tags
 pub mod Use

@@ -17,7 +17,7 @@ use Rattle.tables.proofs.Bits.{bit-shift, marked-low, marked-high}
 use Rattle.tables.proofs.Walks.{every-each, parts-at}
 use Rattle.rules.specs.Fields.{places, deadMask, tasksMade, finishesMade, dead, taskFrom, taskAt, taskFinish, taskStatus, taskSent, taskMaker, home, opener, parent, finishStatus, isPublished, present, bookParent, adoptDue, isAdopted, taskMade, finishMade}
 use Rattle.rules.specs.Messages.{Message, none, publish, published, transit, granted, denied, task, report, release, ghostEnded, countDropped, dropped, tagged, messageIn, fromSlot, messageAt}
-use Rattle.sound.proofs.Tags.{below, waits-tag, moves-tag, dropped-tag}
+use Rattle.ranges.proofs.Tags.{below, waits-tag, moves-tag, dropped-tag}
 use Rattle.rules.specs.Sound.{headSound, taskFits, finishFits, parentFits, bookFits, messageFits, taskSound, finishSound, bookSound, slotSound, tasksSound, finishesSound, booksSound, slotsSound, rowsSound, sound}
 
 -- a number made: 1 to n

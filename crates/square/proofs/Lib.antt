@@ -1,4 +1,3 @@
 pub mod Sums
-pub mod Below
 pub mod Columns
 pub mod New

@@ -1,13 +1,11 @@
 // One store book, a part of 144 bytes: its live counts as a square by value, the sums and tests of it, and its columns written.
 ghost use mathlib.Core.Path.{_≡_};
-ghost use mathlib.Core.Bool.{not};
-ghost use mathlib.Core.List.{_∷_, []};
-ghost use Prim.Native.Nat.{_+_, _*_, _-_, _≤_, _<_};
-ghost use lib.Dec.{eqb, ltb, leb};
+ghost use Prim.Native.Nat.{_+_, _*_, _≤_, _<_};
+ghost use lib.Dec.{leb};
 ghost use lib.ListN.{length};
 ghost use Rattle.tables.specs.Bytes.{byte, part, write};
-ghost use Rattle.tables.specs.Walks.{every, someBelow, sumBytes};
-ghost use Rattle.rules.specs.Books.{total, column, ghosts, clearRow, clearedColumn, lowerRow, loweredColumn, deadColumn, underRepair, owedCell, owes};
+ghost use Rattle.tables.specs.Walks.{sumBytes};
+ghost use Rattle.rules.specs.Books.{total, column, ghosts, clearRow, clearedColumn, lowerRow, loweredColumn};
 ghost use Rattle.rules.specs.Closing.{closes};
 ghost use Rattle.rules.specs.Deliver.{lowers, newBook};
 ghost use Rattle.square.specs.Square.{liveOf, rowsSum, cellAt, wholeRow};
@@ -118,105 +116,6 @@ pub fn closes(b: &[u8]) -> bool
     left == 0
 }
 
-fn dead_column(b: &[u8], d: u8, v: usize) -> bool
-    requires { ⌜ (length (now b) ≡ 144) × (v < 8) ⌝ }
-    ensures { λ r. ⌜ r ≡ deadColumn d (now (b .entry)) v ⌝ }
-{
-    if tables::is_marked(d, v as u8) {} else {
-        return false;
-    }
-    let sum = column_of(b, v);
-    if sum == 0 {
-        return false;
-    }
-    true
-}
-
-fn dead_columns(b: &[u8], d: u8) -> bool
-    requires { ⌜ length (now b) ≡ 144 ⌝ }
-    ensures { λ r. ⌜ r ≡ someBelow (deadColumn d (now (b .entry))) 8 ⌝ }
-{
-    let mut n: usize = 8;
-    while 0 < n {
-        if dead_column(b, d, n - 1) {
-            return true;
-        }
-        n -= 1;
-    }
-    false
-}
-
-// Under repair: adopt is due, or the column of a place of the dead mask d is not all 0.
-pub fn under_repair(b: &[u8], d: u8) -> bool
-    requires { ⌜ length (now b) ≡ 144 ⌝ }
-    ensures { λ r. ⌜ r ≡ underRepair d (now (b .entry)) ⌝ }
-{
-    if b[2] == 1 {
-        return true;
-    }
-    dead_columns(b, d)
-}
-
-fn is_owed(lost: bool, ps: u8, j: u8, gone: bool, cell: u8, asked: bool) -> bool
-    ensures { λ r. ⌜ r ≡ every (lost ∷ ltb j ps ∷ not gone ∷ not (eqb cell 0) ∷ not asked ∷ []) ⌝ }
-{
-    if lost {} else {
-        return false;
-    }
-    if ps <= j {
-        return false;
-    }
-    if gone {
-        return false;
-    }
-    if cell == 0 {
-        return false;
-    }
-    if asked {
-        return false;
-    }
-    true
-}
-
-fn owed_cell(b: &[u8], ps: u8, d: u8, i: usize, j: usize) -> bool
-    requires { ⌜ (length (now b) ≡ 144) × ((i < 8) × (j < 8)) ⌝ }
-    ensures { λ r. ⌜ r ≡ owedCell ps d (now (b .entry)) i j ⌝ }
-{
-    let lost = tables::is_marked(d, i as u8);
-    let gone = tables::is_marked(d, j as u8);
-    let asked = tables::is_marked(b[136 + i], j as u8);
-    is_owed(lost, ps, j as u8, gone, b[8 + 8 * i + j], asked)
-}
-
-fn owed_row(b: &[u8], ps: u8, d: u8, i: usize) -> bool
-    requires { ⌜ (length (now b) ≡ 144) × (i < 8) ⌝ }
-    ensures { λ r. ⌜ r ≡ someBelow (owedCell ps d (now (b .entry)) i) 8 ⌝ }
-{
-    let mut n: usize = 8;
-    while 0 < n {
-        if owed_cell(b, ps, d, i, n - 1) {
-            return true;
-        }
-        n -= 1;
-    }
-    false
-}
-
-// A count is owed: of ps places those of the dead mask d are dead.
-pub fn owes(b: &[u8], ps: u8, d: u8) -> bool
-    requires { ⌜ length (now b) ≡ 144 ⌝ }
-    ensures { λ r. ⌜ r ≡ owes ps d (now (b .entry)) ⌝ }
-{
-    let mut n: usize = 8;
-    while 0 < n {
-        if owed_row(b, ps, d, n - 1) {
-            return true;
-        }
-        n -= 1;
-    }
-    false
-}
-
 fn count_fits(b: &[u8], v: usize, counts: [u8; 8], i: usize) -> bool
     requires { ⌜ (length (now b) ≡ 144) × ((v < 8) × (i < 8)) ⌝ }
     ensures { λ r. ⌜ r ≡ leb (byte counts i) (byte (now (b .entry)) (8 + 8 * i + v)) ⌝ }
@@ -259,17 +158,11 @@ pub fn clear_column(b: &mut [u8], v: usize)
     }
 }
 
-fn less(x: u8, c: u8) -> u8
-    ensures { λ r. ⌜ r ≡ x - c ⌝ }
-{
-    if c <= x { x - c } else { 0 }
-}
-
 fn lower_row(b: &mut [u8], at: usize, v: usize, counts: [u8; 8], i: usize)
     requires { ⌜ (at + 8 ≤ length (now b)) × ((v < 8) × (i < 8)) ⌝ }
     ensures { λ _. ⌜ now (b .exit) ≡ write (now (b .entry)) at (lowerRow v counts (part (now (b .entry)) at 8) i) ⌝ }
 {
-    let x = less(b[at + v], counts[i]);
+    let x = tables::less(b[at + v], counts[i]);
     b[at + v] = x;
 }
 

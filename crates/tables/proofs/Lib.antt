@@ -4,3 +4,4 @@ pub mod Changes
 pub mod Places
 pub mod Bits
 pub mod Tests
+pub mod Below

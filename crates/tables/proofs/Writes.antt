@@ -7,7 +7,7 @@ use native.Mathlib.Nat.{zero-add, suc-add}
 use native.Mathlib.Numerals.{add-one}
 use native.Mathlib.Omega.{arith}
 use borrow.Author.Fill.{fill-more}
-use lib.ListN.{set, length, drop, take, replicate, length-drop, drop-of-length-le}
+use lib.ListN.{set, length, drop, take, replicate, length-drop, length-replicate, drop-of-length-le}
 use lib.Seq.{sets, sets-eq, length-sets, paste, paste-suc, take-all, drop-drop, getD-drop, getD-take, length-take-le}
 use Rattle.tables.specs.Bytes.{byte, part, over, write}
 
@@ -105,6 +105,13 @@ part-changed f t p a e n q l g h =
 pub length-part : (t : List ℕ) (k n : ℕ) → k + n ≤ length t → length (part t k n) ≡ n
 unfolding part
 length-part t k n h = length-take-le n (drop k t) (rw (length-drop k t) (omega arith))
+
+-- a part lent as &mut t[a..a + n] and cleared
+pub part-cleared : (t p : List ℕ) (a n : ℕ) → a + n ≤ length t → p ≡ replicate (length (take (a + n - a) (drop a t))) 0
+    → take a t ++ (p ++ drop (a + n - a) (drop a t)) ≡ write t a (replicate n 0)
+part-cleared t p a n h q =
+    part-changed (λ b. replicate (length b) 0) t p a (a + n) n q (length-replicate {A = ℕ} (length (part t a n)) 0 ∙ length-part t a n h) (omega arith) h
+    ∙ ap (λ (n : ℕ). write t a (replicate n 0)) (length-part t a n h)
 
 pub byte-part : (t : List ℕ) (k n j : ℕ) → j < n → byte (part t k n) j ≡ byte t (k + j)
 unfolding part

@@ -1,6 +1,6 @@
 // The session tables as bytes that the caller lends: the numbers and places of the table kind; rows, parts and marks read and written.
 ghost use mathlib.Core.Path.{_≡_};
-ghost use Prim.Native.Nat.{_+_, _*_, _≤_, _<_};
+ghost use Prim.Native.Nat.{_+_, _-_, _*_, _≤_, _<_};
 ghost use lib.ListN.{length, replicate};
 ghost use Rattle.tables.specs.Bytes.{part, write};
 ghost use Rattle.tables.specs.Bits.{marked, withMark, withoutMark};
@@ -90,6 +90,16 @@ pub fn wide(x: u8) -> usize
     x as usize
 }
 
+// x less y, and not below 0.
+pub fn less(x: u8, y: u8) -> u8
+    ensures { λ r. ⌜ r ≡ x - y ⌝ }
+{
+    if x < y {
+        return 0;
+    }
+    x - y
+}
+
 // The eight bytes from place `at` on, by value.
 pub fn row_of(t: &[u8], at: usize) -> [u8; 8]
     requires { ⌜ at + 8 ≤ length (now t) ⌝ }
@@ -145,6 +155,15 @@ pub fn clear(b: &mut [u8])
         b[i] = 0;
         i += 1;
     }
+}
+
+// Sets the n bytes from place a on to 0.
+pub fn clear_part(t: &mut [u8], a: usize, n: usize)
+    requires { ⌜ a + n ≤ length (now t) ⌝ }
+    ensures { λ _. ⌜ now (t .exit) ≡ write (now (t .entry)) a (replicate n 0) ⌝ }
+{
+    let e = a + n;
+    clear(&mut t[a..e]);
 }
 
 // Mark j of a byte.

@@ -4,7 +4,7 @@ use Rattle.books.proofs.in_repair.Statement.{statement}
 use Rattle.books.proofs.in_repair.Tie as tie
 use Rattle.books.proofs.in_repair.Reads as reads
 use Rattle.books.proofs.in_repair.Lts as lts
-use Rattle.square.proofs.under_repair.Reads as under-repair-reads
+use Rattle.repair.proofs.under_repair.Reads as under-repair-reads
 use Rattle.tables.proofs.Tables.book.Reads as book-reads
 
 book-requires : tie.Need-book-requires

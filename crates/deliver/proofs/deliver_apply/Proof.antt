@@ -1,4 +1,4 @@
-use Rattle.deliver.proofs.Laws.{fits-in, gone-step, kept-step}
+use Rattle.deliver.proofs.Taken.{fits-in, gone-step, kept-step}
 use Rattle.rules.specs.Messages.{messageIn, messageAt}
 use native.Mathlib.Omega.{arith}
 use mathlib.Core.Path.{refl, sym, _∙_}
@@ -7,8 +7,8 @@ use Rattle.deliver.proofs.deliver_apply.Statement.{statement}
 use Rattle.deliver.proofs.deliver_apply.Tie as tie
 use Rattle.deliver.proofs.deliver_apply.Reads as reads
 use Rattle.deliver.proofs.deliver_apply.Lts as lts
-use Rattle.deliver.proofs.deliver_tag.Reads as deliver-tag-reads
-use Rattle.deliver.proofs.is_discarded.Reads as is-discarded-reads
+use Rattle.tags.proofs.deliver_tag.Reads as deliver-tag-reads
+use Rattle.tags.proofs.is_discarded.Reads as is-discarded-reads
 use Rattle.tables.proofs.wide.Reads as wide-reads
 use Rattle.messages.proofs.counts_at.Reads as counts-at-reads
 use Rattle.messages.proofs.empty_slot.Reads as empty-slot-reads

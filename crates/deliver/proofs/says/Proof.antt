@@ -6,7 +6,7 @@ use Rattle.deliver.proofs.says.Statement.{statement}
 use Rattle.deliver.proofs.says.Tie as tie
 use Rattle.deliver.proofs.says.Reads as reads
 use Rattle.deliver.proofs.says.Lts as lts
-use Rattle.deliver.proofs.says_tag.Reads as says-tag-reads
+use Rattle.tags.proofs.says_tag.Reads as says-tag-reads
 use Rattle.tables.proofs.wide.Reads as wide-reads
 use Rattle.messages.proofs.counts_at.Reads as counts-at-reads
 use Rattle.messages.proofs.slot_byte.Reads as slot-byte-reads

@@ -23,13 +23,13 @@ unfolding endSends
 returns c = was-true _ _ _ _ _ (c .before .before .is-main .ensures) (c .before .if1 .taken)
     (rw (c .finish-byte .ensures, c .before .before .before .before .task-byte .ensures))
 
-local-live-requires : tie.Need-local-live-requires
-local-live-requires c κs = search needs
+local-byte-requires : tie.Need-local-byte-requires
+local-byte-requires c κs = search needs
 
 returns-2 : tie.Need-returns-2
 unfolding endSends
 returns-2 c = was-false _ _ _ _ _ (c .before .before .is-main .ensures) (c .before .if1 .left)
-    (rw (c .local-live .ensures, c .before .before .before .task-byte2 .ensures, c .before .before .before .before .task-byte .ensures))
+    (rw (c .local-byte .ensures, c .before .before .before .task-byte2 .ensures, c .before .before .before .before .task-byte .ensures))
 
 pub end-sends-spec : {M : Type 1} → statement M
-end-sends-spec = tie.close (tie.spec task-byte-requires task-byte-requires-2 is-main-requires finish-byte-requires returns local-live-requires returns-2)
+end-sends-spec = tie.close (tie.spec task-byte-requires task-byte-requires-2 is-main-requires finish-byte-requires returns local-byte-requires returns-2)

@@ -1,5 +1,5 @@
 use Rattle.rules.specs.Kill.{killStep}
-use Rattle.kill.proofs.Goes.{mark-aside}
+use Rattle.loss.proofs.Goes.{mark-aside}
 use borrow.Author.Needs.{needs}
 use Rattle.kill.proofs.kill.Statement.{statement}
 use Rattle.kill.proofs.kill.Tie as tie

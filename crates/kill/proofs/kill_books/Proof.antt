@@ -10,7 +10,7 @@ use Rattle.kill.proofs.kill_books.Statement.{statement}
 use Rattle.kill.proofs.kill_books.Tie as tie
 use Rattle.kill.proofs.kill_books.Reads as reads
 use Rattle.kill.proofs.kill_books.Lts as lts
-use Rattle.kill.proofs.kill_book.Reads as kill-book-reads
+use Rattle.loss.proofs.kill_book.Reads as kill-book-reads
 use Rattle.tables.proofs.Tables.book.Reads as book-reads
 
 abbrev Inv-loop : tie.InvT-loop

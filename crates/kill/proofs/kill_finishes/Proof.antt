@@ -10,7 +10,7 @@ use Rattle.kill.proofs.kill_finishes.Statement.{statement}
 use Rattle.kill.proofs.kill_finishes.Tie as tie
 use Rattle.kill.proofs.kill_finishes.Reads as reads
 use Rattle.kill.proofs.kill_finishes.Lts as lts
-use Rattle.kill.proofs.kill_finish.Reads as kill-finish-reads
+use Rattle.loss.proofs.kill_finish.Reads as kill-finish-reads
 
 abbrev Inv-loop : tie.InvT-loop
 Inv-loop t₀ p n j₀ t j = (j ≤ n) × ((length t ≡ length t₀) × (t ≡ changeParts (killFinish p) 8 1 j 2048 t₀))

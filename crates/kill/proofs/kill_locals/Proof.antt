@@ -10,7 +10,7 @@ use Rattle.kill.proofs.kill_locals.Statement.{statement}
 use Rattle.kill.proofs.kill_locals.Tie as tie
 use Rattle.kill.proofs.kill_locals.Reads as reads
 use Rattle.kill.proofs.kill_locals.Lts as lts
-use Rattle.kill.proofs.kill_local.Reads as kill-local-reads
+use Rattle.loss.proofs.kill_local.Reads as kill-local-reads
 use Rattle.tables.proofs.Tables.local.Reads as local-reads
 
 abbrev Inv-loop : tie.InvT-loop

@@ -10,7 +10,7 @@ use Rattle.kill.proofs.kill_slots.Statement.{statement}
 use Rattle.kill.proofs.kill_slots.Tie as tie
 use Rattle.kill.proofs.kill_slots.Reads as reads
 use Rattle.kill.proofs.kill_slots.Lts as lts
-use Rattle.kill.proofs.kill_slot.Reads as kill-slot-reads
+use Rattle.loss.proofs.kill_slot.Reads as kill-slot-reads
 use Rattle.tables.proofs.Tables.slot.Reads as slot-reads
 
 abbrev Inv-loop : tie.InvT-loop

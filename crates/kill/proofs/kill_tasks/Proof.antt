@@ -10,7 +10,7 @@ use Rattle.kill.proofs.kill_tasks.Statement.{statement}
 use Rattle.kill.proofs.kill_tasks.Tie as tie
 use Rattle.kill.proofs.kill_tasks.Reads as reads
 use Rattle.kill.proofs.kill_tasks.Lts as lts
-use Rattle.kill.proofs.kill_task.Reads as kill-task-reads
+use Rattle.loss.proofs.kill_task.Reads as kill-task-reads
 use Rattle.tables.proofs.Tables.task.Reads as task-reads
 
 abbrev Inv-loop : tie.InvT-loop

@@ -4,7 +4,7 @@ use Rattle.quiet.proofs.owing.Statement.{statement}
 use Rattle.quiet.proofs.owing.Tie as tie
 use Rattle.quiet.proofs.owing.Reads as reads
 use Rattle.quiet.proofs.owing.Lts as lts
-use Rattle.square.proofs.owes.Reads as owes-reads
+use Rattle.repair.proofs.owes.Reads as owes-reads
 
 add-e : tie.Need-add-e
 add-e c = search needs

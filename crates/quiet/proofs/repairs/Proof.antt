@@ -4,7 +4,7 @@ use Rattle.quiet.proofs.repairs.Statement.{statement}
 use Rattle.quiet.proofs.repairs.Tie as tie
 use Rattle.quiet.proofs.repairs.Reads as reads
 use Rattle.quiet.proofs.repairs.Lts as lts
-use Rattle.square.proofs.under_repair.Reads as under-repair-reads
+use Rattle.repair.proofs.under_repair.Reads as under-repair-reads
 
 add-e : tie.Need-add-e
 add-e c = search needs

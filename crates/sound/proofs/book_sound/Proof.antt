@@ -6,7 +6,7 @@ use Rattle.sound.proofs.book_sound.Statement.{statement}
 use Rattle.sound.proofs.book_sound.Tie as tie
 use Rattle.sound.proofs.book_sound.Reads as reads
 use Rattle.sound.proofs.book_sound.Lts as lts
-use Rattle.sound.proofs.book_fits.Reads as book-fits-reads
+use Rattle.ranges.proofs.book_fits.Reads as book-fits-reads
 use Rattle.tables.proofs.wide.Reads as wide-reads
 
 wide-requires : tie.Need-wide-requires
@@ -41,7 +41,7 @@ book-fits-requires c κs = search needs
 
 returns : tie.Need-returns
 unfolding bookSound
-returns c = simp (getD-drop, add-zero) cc
+returns c = simp (getD-drop, add-zero) (rw (c .before .before .before .wide2 .ensures .0, c .before .before .before .before .before .before .wide .ensures .0) at (c .book-fits .ensures))
 
 pub book-sound-spec : {M : Type 1} → statement M
 book-sound-spec =

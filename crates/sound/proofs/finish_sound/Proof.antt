@@ -6,7 +6,7 @@ use Rattle.sound.proofs.finish_sound.Statement.{statement}
 use Rattle.sound.proofs.finish_sound.Tie as tie
 use Rattle.sound.proofs.finish_sound.Reads as reads
 use Rattle.sound.proofs.finish_sound.Lts as lts
-use Rattle.sound.proofs.finish_fits.Reads as finish-fits-reads
+use Rattle.ranges.proofs.finish_fits.Reads as finish-fits-reads
 use Rattle.tables.proofs.wide.Reads as wide-reads
 
 shared-slice-read-finish-fits : tie.Need-shared-slice-read-finish-fits

@@ -7,7 +7,7 @@ use Rattle.sound.proofs.is_sound.Statement.{statement}
 use Rattle.sound.proofs.is_sound.Tie as tie
 use Rattle.sound.proofs.is_sound.Reads as reads
 use Rattle.sound.proofs.is_sound.Lts as lts
-use Rattle.sound.proofs.head_sound.Reads as head-sound-reads
+use Rattle.ranges.proofs.head_sound.Reads as head-sound-reads
 use Rattle.sound.proofs.rows_sound.Reads as rows-sound-reads
 
 shared-slice-read-ps : tie.Need-shared-slice-read-ps

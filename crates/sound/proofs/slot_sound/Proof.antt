@@ -9,7 +9,7 @@ use Rattle.sound.proofs.slot_sound.Statement.{statement}
 use Rattle.sound.proofs.slot_sound.Tie as tie
 use Rattle.sound.proofs.slot_sound.Reads as reads
 use Rattle.sound.proofs.slot_sound.Lts as lts
-use Rattle.sound.proofs.message_fits.Reads as message-fits-reads
+use Rattle.ranges.proofs.message_fits.Reads as message-fits-reads
 
 shared-slice-read-tag : tie.Need-shared-slice-read-tag
 shared-slice-read-tag c = search needs

@@ -6,7 +6,7 @@ use Rattle.sound.proofs.task_sound.Statement.{statement}
 use Rattle.sound.proofs.task_sound.Tie as tie
 use Rattle.sound.proofs.task_sound.Reads as reads
 use Rattle.sound.proofs.task_sound.Lts as lts
-use Rattle.sound.proofs.task_fits.Reads as task-fits-reads
+use Rattle.ranges.proofs.task_fits.Reads as task-fits-reads
 use Rattle.tables.proofs.wide.Reads as wide-reads
 
 shared-slice-read-task-fits : tie.Need-shared-slice-read-task-fits

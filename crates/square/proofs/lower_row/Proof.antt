@@ -4,7 +4,7 @@ use Rattle.square.proofs.lower_row.Statement.{statement}
 use Rattle.square.proofs.lower_row.Tie as tie
 use Rattle.square.proofs.lower_row.Reads as reads
 use Rattle.square.proofs.lower_row.Lts as lts
-use Rattle.square.proofs.less.Reads as less-reads
+use Rattle.tables.proofs.less.Reads as less-reads
 
 add-less : tie.Need-add-less
 add-less c = search needs

@@ -4,7 +4,7 @@ use lib.Dec.{leb}
 use Rattle.tables.specs.Bytes.{byte}
 use Rattle.tables.specs.Walks.{everyBelow}
 use Rattle.rules.specs.Deliver.{lowers}
-use Rattle.square.proofs.Below.{every-pass, every-stop, every-done}
+use Rattle.tables.proofs.Below.{every-pass, every-stop, every-done}
 use borrow.Author.Needs.{needs}
 use Rattle.square.proofs.lowers.Statement.{statement}
 use Rattle.square.proofs.lowers.Tie as tie
