@@ -1,10 +1,14 @@
-# Two commands do everything: `make run` plays case A of document 01, `make test` is the whole gate.
-.PHONY: run test
+# make run plays case A of document 01; make test is the whole gate; make bench and make soak go on from what it proved.
+.PHONY: run test bench soak
 
 run:
-	@echo "There is no program to run yet: the replay program comes with the core."
-	@echo "Case A of document 01 is proved over the rules in crates/cases: its twelve records and all that they print."
-	@echo "make test proves it, with everything else."
+	@tests/play.sh
 
 test:
 	@tests/gate.sh
+
+bench:
+	@. tests/machine.sh && rt staticlib finish >/dev/null && bench/run.sh target/staticlib/libfinish.a
+
+soak:
+	@. tests/machine.sh && rt staticlib finish >/dev/null && tests/soak.sh target/staticlib/libfinish.a

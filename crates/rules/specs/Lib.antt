@@ -17,6 +17,7 @@ pub mod Refusals
 pub mod Step
 pub mod Sent
 pub mod Quiet
+pub mod Sessions
 pub mod PrintedRun
 pub mod Outcome
 pub mod WrongCores
