@@ -8,7 +8,7 @@
 #include <stdlib.h>
 #include <string.h>
 
-enum { MAX_REPEATS = 1001, ROWS = 10 };
+enum { MAX_REPEATS = 1001, ROWS = 11 };
 
 /* A ratio of the core to the second program above this is not accepted. */
 static const double most_accepted = 1.25;
@@ -114,9 +114,10 @@ static void prepare(struct row rows[ROWS])
     chains_small(&rows[0]);
     chains_filling(&rows[1]);
     chains_full(&rows[2]);
+    chains_repair(&rows[3]);
+    chains_refusals(&rows[4]);
     for (uint32_t answer = 1; answer <= 6; answer++)
-        chains_refused(&rows[2 + answer], answer);
-    chains_repair(&rows[9]);
+        chains_refused(&rows[4 + answer], answer);
 }
 
 int main(int argc, char **argv)

@@ -309,12 +309,10 @@ static void find_refused(struct found found[BEGIN + 2], struct course *on, uint3
     } while (next_record(record));
 }
 
-/* Kinds take turns, so that none outweighs another. Refusal 1 takes a few nanoseconds and a look at the clock some
- * hundreds, so more of them are needed. */
-static void note_refused(struct chain *chain, struct course *on, uint32_t answer)
+/* Kinds take turns, so that none outweighs another. */
+static void note_refused(struct chain *chain, struct course *on, uint32_t answer, size_t most)
 {
     static struct found found[BEGIN + 2];
-    const size_t most = answer == NO_SUCH_RECORD ? MAX_RECORDS : 512;
     memset(found, 0, sizeof found);
     find_refused(found, on, answer);
     start_chain(chain, on);
@@ -325,16 +323,31 @@ static void note_refused(struct chain *chain, struct course *on, uint32_t answer
     }
 }
 
+/* Two chains of as many records that are refused this number; in the second all slots are full. */
+static void add_refused(struct row *row, uint32_t answer, size_t most)
+{
+    static struct course on;
+    for (unsigned full = 0; full < 2; full++) {
+        make_refusing(&on, full == 1);
+        note_refused(&row->chain[row->chains++], &on, answer, most);
+    }
+}
+
+void chains_refusals(struct row *row)
+{
+    start_row(row, "refusals only");
+    for (uint32_t answer = 1; answer <= 6; answer++)
+        add_refused(row, answer, REFUSED_RECORDS);
+    count_kinds(row);
+}
+
+/* Refusal 1 takes a few nanoseconds and a look at the clock some hundreds, so more of them are needed. */
 void chains_refused(struct row *row, uint32_t answer)
 {
-    static const char *const names[] = {NULL,        "refused 1", "refused 2", "refused 3",
-                                        "refused 4", "refused 5", "refused 6"};
-    static struct course on;
+    static const char *const names[] = {NULL,            "  of them, 1", "  of them, 2", "  of them, 3",
+                                        "  of them, 4", "  of them, 5", "  of them, 6"};
     start_row(row, names[answer]);
-    for (row->chains = 0; row->chains < 2; row->chains++) {
-        make_refusing(&on, row->chains == 1);
-        note_refused(&row->chain[row->chains], &on, answer);
-    }
+    add_refused(row, answer, answer == NO_SUCH_RECORD ? MAX_RECORDS : REFUSED_RECORDS);
     count_kinds(row);
 }
 

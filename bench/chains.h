@@ -5,7 +5,7 @@
 
 #include "../second/session.h"
 
-enum { MAX_RECORDS = 4096, MAX_CHAINS = 16 };
+enum { MAX_RECORDS = 4096, MAX_CHAINS = 16, REFUSED_RECORDS = 512 };
 
 /* Records that follow each other from one state of the tables. */
 struct chain {
@@ -32,7 +32,10 @@ void chains_filling(struct row *row);
 /* Steps taken in such a state, each of them with 100 messages in flight or more. */
 void chains_full(struct row *row);
 
-/* Records that are all refused this number, 1 to 6, in such a state after the loss of a place. */
+/* Records that are all refused, as many by each of the numbers 1 to 6, in such a state after the loss of a place. */
+void chains_refusals(struct row *row);
+
+/* Those of one number. */
 void chains_refused(struct row *row, uint32_t answer);
 
 /* A kill and the repair that follows, with ghosts and positive dropped counts. */
