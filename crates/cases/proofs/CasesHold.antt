@@ -69,43 +69,43 @@ from-record-7 c h =
 
 A-computed : computed 8 tables7 edge-A ≡ true
 unfolding computed tables7 nothingMore edge-A
-A-computed = refl
+A-computed = refl {a = true}
 
 begin-computed : computed 1 zeroTables edge-begin ≡ true
 unfolding computed edge-begin
-begin-computed = refl
+begin-computed = refl {a = true}
 
 end-computed : computed 1 zeroTables edge-end ≡ true
 unfolding computed nothingMore edge-end
-end-computed = refl
+end-computed = refl {a = true}
 
 cancel-computed : computed 8 tables7 edge-cancel ≡ true
 unfolding computed tables7 edge-cancel
-cancel-computed = refl
+cancel-computed = refl {a = true}
 
 held-computed : computed 8 tables7 edge-held ≡ true
 unfolding computed tables7 nothingMore edge-held
-held-computed = refl
+held-computed = refl {a = true}
 
 dropped-computed : computed 8 tables7 edge-dropped ≡ true
 unfolding computed tables7 toAsk linesToAsk edge-dropped
-dropped-computed = refl
+dropped-computed = refl {a = true}
 
 again-computed : computed 8 tables7 edge-again ≡ true
 unfolding computed tables7 toAsk linesToAsk nothingMore edge-again
-again-computed = refl
+again-computed = refl {a = true}
 
 received-computed : computed 8 tables7 edge-received ≡ true
 unfolding computed tables7 edge-received
-received-computed = refl
+received-computed = refl {a = true}
 
 kill-computed : computed 1 zeroTables edge-kill ≡ true
 unfolding computed edge-kill
-kill-computed = refl
+kill-computed = refl {a = true}
 
 slot-computed : computed 1 zeroTables edge-slot ≡ true
 unfolding computed nothingMore edge-slot
-slot-computed = refl
+slot-computed = refl {a = true}
 
 -- Those marked * are proved over the rules themselves, as a single list under a single statement.
 pub cases-hold : AllHold cases

@@ -90,9 +90,22 @@ module _ (p : List ℕ → ℕ → Bool) (w : ℕ) where
       let g : i + suc j ≡ suc i + j = omega arith in
       rw (← step w j m, g) (each-at n (suc i) (drop w m) (both (p m i) (everyPart p w (suc i) n (drop w m)) e .1) j (omega arith))
 
-  -- what holds of all holds of each
+  each-all : (n i : ℕ) (m : List ℕ) → ((j : ℕ) → j < n → p (drop (w * j) m) (i + j) ≡ true) → everyPart p w i n m ≡ true
+  unfolding everyPart
+  each-all zero i m h = refl
+  each-all (suc n) i m h =
+      let first : p m i ≡ true = rw (mul-zero w, add-zero i) at (h 0 (omega arith)) in
+      rw first (each-all n (suc i) (drop w m) (λ j l. rest j (h (suc j) (omega arith))))
+    where
+      rest : (j : ℕ) → p (drop (w * suc j) m) (i + suc j) ≡ true → p (drop (w * j) (drop w m)) (suc i + j) ≡ true
+      rest j e = let g : suc i + j ≡ i + suc j = omega arith in rw (step w j m, g) e
+
+  -- what holds of all holds of each, and the other way round
   pub parts-at : (i n k : ℕ) (t : List ℕ) (j at x : ℕ) → everyPart p w i n (drop k t) ≡ true → j < n → k + w * j ≡ at → i + j ≡ x → p (drop at t) x ≡ true
   parts-at i n k t j at x e h place number = rw (← place, ← number, ← drop-drop (w * j) k t) (each-at n i (drop k t) e j h)
+
+  pub parts-all : (i n k : ℕ) (t : List ℕ) → ((j : ℕ) → j < n → p (drop (k + w * j) t) (i + j) ≡ true) → everyPart p w i n (drop k t) ≡ true
+  parts-all i n k t h = each-all n i (drop k t) (λ j l. rw (drop-drop (w * j) k t) (h j l))
 
 -- ---- the first part of which p holds
 unfoldable pub firstLeft : (List ℕ → ℕ → Bool) → ℕ → ℕ → ℕ → ℕ → List ℕ → ℕ → ℕ
@@ -127,6 +140,25 @@ module _ (p : List ℕ → ℕ → Bool) (w : ℕ) where
       go : (c : Bool) (x : ℕ) → (suc i ≤ x) × (x ≤ suc i + n) → (i ≤ cond c i x) × (cond c i x ≤ i + suc n)
       go true x r = omega arith
       go false x r = omega arith
+
+  first-holds : (n i : ℕ) (m : List ℕ) (j : ℕ) → firstPart p w i n m ≡ i + j → j < n → p (drop (w * j) m) (i + j) ≡ true
+  unfolding firstPart
+  first-holds zero i m j e h = absurd (omega arith)
+  first-holds (suc n) i m j e h = go (p m i) refl j (first-holds n (suc i) (drop w m)) e h
+    where
+      go : (c : Bool) → p m i ≡ c → (j : ℕ)
+          → ((j : ℕ) → firstPart p w (suc i) n (drop w m) ≡ suc i + j → j < n → p (drop (w * j) (drop w m)) (suc i + j) ≡ true)
+          → cond c i (firstPart p w (suc i) n (drop w m)) ≡ i + j → j < suc n → p (drop (w * j) m) (i + j) ≡ true
+      go true q zero rest e h = rw (mul-zero w, add-zero i) q
+      go true q (suc j) rest e h = absurd (omega arith)
+      go false q zero rest e h = let r = first-range n (suc i) (drop w m) in absurd (omega arith)
+      go false q (suc j) rest e h =
+          let g : i + suc j ≡ suc i + j = omega arith in
+          rw (← step w j m, g) (rest j (e ∙ g) (omega arith))
+
+  -- and p holds of it
+  pub first-at : (i n k : ℕ) (t : List ℕ) (j at x : ℕ) → firstPart p w i n (drop k t) ≡ x → j < n → k + w * j ≡ at → i + j ≡ x → p (drop at t) x ≡ true
+  first-at i n k t j at x e h place number = rw (← place, ← number, ← drop-drop (w * j) k t) (first-holds n i (drop k t) j (e ∙ sym number) h)
 
 -- ---- how many parts p holds of
 unfoldable pub countLeft : (List ℕ → ℕ → Bool) → ℕ → ℕ → ℕ → ℕ → List ℕ → ℕ → ℕ

@@ -1,0 +1,14 @@
+pub mod Base
+pub mod State
+pub mod Messages
+pub mod Nesting
+pub mod Weights
+pub mod Effects
+pub mod Guards
+pub mod Step
+pub mod Inv
+pub mod Facts
+pub mod Steps
+pub mod Keeps
+pub mod Promises
+pub mod Reached

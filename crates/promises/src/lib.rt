@@ -1,0 +1,1 @@
+// The session tables as a state of the model: all of this crate stands in specs/ and proofs/.

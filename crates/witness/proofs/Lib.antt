@@ -1,0 +1,4 @@
+pub mod Passes
+pub mod Witnessed
+pub mod SameWords
+pub mod CoresPass
