@@ -1,5 +1,5 @@
 -- Each kind of step keeps the invariant, in the order of the document.
--- What kinds share: rows made, a slot written, emptied or sent into, a reply in a slot, an answer, a spawn, a main task's end, a book cleared, what a kill loses.
+-- What kinds share: rows made; a slot written, emptied, sent into or replied in; an answer; a task moved; a spawn; a finish turned; a task's end; a book cleared; what a kill loses.
 pub mod NewRows
 pub mod Written
 pub mod Emptied
@@ -9,7 +9,7 @@ pub mod Answer
 pub mod TaskMoved
 pub mod SettledTask
 pub mod Spawned
-pub mod MainEnded
+pub mod FinishTurned
 pub mod OtherEnded
 pub mod WithoutBook
 pub mod Closing

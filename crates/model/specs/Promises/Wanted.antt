@@ -24,13 +24,9 @@ module _ (s : State) (inv : Inv s) where
       (λ q. absurd (omega (arith, rw is-main at (inv .publishing f q .2), runs .running)))
       (λ n. omega (arith, b .1, b .2))
 
-  -- an unreleased finish's opener is blocked
-  opener-wanted : (f : ℕ) → 1 ≤ s .finishes .status f → s .finishes .status f ≤ 3 → MayRun s (s .finishes .opener f)
-  opener-wanted f l h = opener-blocked s inv f l h
-
   -- end of a main task: its opener, if any, is blocked
   pub end-wanted : (t : ℕ) → Runs s t → s .tasks .sent t ≡ 0 → MayRun s (s .finishes .opener (s .tasks .finish t))
-  end-wanted t runs e = let a = main-wanted t runs e in opener-wanted (s .tasks .finish t) (omega arith) (omega arith)
+  end-wanted t runs e = let a = main-wanted t runs e in opener-blocked s inv (s .tasks .finish t) (omega arith) (omega arith)
 
   -- end of another task: its local live count is above 0, and no more is reported than was received
   pub end-counts : (t : ℕ) → Runs s t → (s .tasks .sent t ≡ 0 → ⊥)
@@ -85,7 +81,7 @@ module _ (s : State) (inv : Inv s) where
         let f = s .slot k .finish in
         let waits : s .finishes .status f ≡ 3 = eq-cases (s .finishes .status f) 3 (λ e. e)
         (λ n. absurd (omega (arith, inv .release-none f n, tallied-ge s k 8 (λ m. eqb (m .finish) f) (λ m. 1) (full .range) (full .tag) (eq-eqb f f refl)))) in
-        (inv .waiting f waits .0, waits, opener-wanted f (omega arith) (omega arith))
+        (inv .waiting f waits .0, waits, opener-blocked s inv f (omega arith) (omega arith))
 
     -- 10: to alive, number not below received
     pub count-dropped-wanted : Full s k 10

@@ -39,6 +39,7 @@ module _ (s : State) (k : ℕ) (inv : Inv s) (in-range : k < s .slots) where
     marked,
     sent-from,
     D.lasts s k in-range (search inv),
+    D.release-none s k in-range (inv .release-none),
   )
 
   module _ (a : ℕ) (is : s .slot k .tag ≡ a) where

@@ -34,7 +34,6 @@ pub record Lasting (s : State) : Type 0 where
   pub questions : M.Questions s
   pub publish-once : M.PublishOnce s
   pub named-once : M.NamedOnce s
-  pub release-none : M.ReleaseNone s
   pub no-answer : C.NoAnswer s
   pub sent-most : C.SentMost s
   pub sent-tasks-most : C.SentTasksMost s
@@ -69,6 +68,9 @@ module _ (s : State) (k : ℕ) (in-range : k < s .slots) where
   fewer-between : (t f i j : ℕ) → 0 < t → between s′ t f i j ≤ between s t f i j
   fewer-between t f i j z = omega (arith, falls t (λ m. is₃ (m .finish) (m .from) (m .to) f i j) (λ m. 1) z)
 
+  pub release-none : M.ReleaseNone s → M.ReleaseNone s′
+  release-none c f n = omega (arith, c f n, fewer-of 8 f (omega arith))
+
   pub lasts : Lasting s → Lasting s′
   lasts c = record {
     tags = each (M.TagsOf s) (c .tags) (omega arith);
@@ -101,7 +103,6 @@ module _ (s : State) (k : ℕ) (in-range : k < s .slots) where
       fewer-naming 5 x (omega arith),
       fewer-naming 6 x (omega arith),
     );
-    release-none = λ f n. omega (arith, c .release-none f n, fewer-of 8 f (omega arith));
     no-answer = λ f i j p l d. omega (arith, c .no-answer f i j p l d, falls 11 (λ m. is₃ (m .finish) (m .from) (m .to) f i j) (λ m. m .number) (omega arith));
     sent-most = λ f i j p l. omega (arith, c .sent-most f i j p l, fewer-between 6 f i j (omega arith));
     sent-tasks-most = λ f i j n. omega (arith, c .sent-tasks-most f i j n, fewer-between 3 f i j (omega arith));

@@ -1,5 +1,5 @@
 -- The end of a main task whose finish is published, with the report from its home, keeps the invariant.
-use mathlib.Core.Path.{_≡_, refl, sym, _∙_}
+use mathlib.Core.Path.{_≡_, refl, sym, ap, _∙_}
 use mathlib.Core.Bool.{Bool, true, false, cond, _&&_}
 use Prim.Native.Nat.{ℕ, _+_, _≤_, _<_}
 use native.Mathlib.Omega.{arith}
@@ -7,7 +7,7 @@ use lib.Dec.{eqb}
 use borrow.Author.Tests.{eq-eqb, ne-eqb}
 use Rattle.model.specs.Base.{upd, upd-same, upd-other, upd-cases, on, on-true, on-false, on-zero, is₂, is₂-cases, is₂-false, eq-cases}
 use Rattle.model.specs.State.{State, Message, withTaskStatus, withFinishStatus}
-use Rattle.model.specs.Messages.{reports}
+use Rattle.model.specs.Messages.{reports, ofFinish}
 use Rattle.model.specs.Weights.{weigh-in, weigh-out, ended}
 use Rattle.model.specs.Guards.{Runs, Free}
 use Rattle.model.specs.Effects.End.{homeReport, endPublished}
@@ -17,7 +17,7 @@ use Rattle.model.specs.Inv.Cells as C
 use Rattle.model.specs.Inv.Locals as L
 use Rattle.model.specs.Steps.Written as W
 use Rattle.model.specs.Steps.Sent.{Aside, NoTask, other-tag, rises, aside, no-task}
-use Rattle.model.specs.Steps.MainEnded.{MainEnded, Rows, main-ends}
+use Rattle.model.specs.Steps.FinishTurned.{FinishTurned, Rows, turns}
 
 -- a report of f from its home, count 1 for its home, speaks of the home's own cell
 own-cell : (f h i j : ℕ) → on (is₂ f h f j) (on (eqb h i) 1) ≡ on (is₂ h h i j) 1
@@ -57,11 +57,27 @@ module _ (s : State) (t k : ℕ) (inv : Inv s) (runs : Runs s t) (is-main : s .t
   by-row : Rows s t 0 (s₁ .tasks .status)
   by-row P x a b c = upd-cases (s .tasks .status) P t 7 x a (λ n. c n (λ z _. omega arith))
 
-  ends : MainEnded s₁
-  ends = main-ends s t 3 0 (s₁ .tasks .status) inv runs is-main is-active (omega (arith, is-published)) (λ _. refl) (λ e. absurd (omega arith)) by-row
+  main-is : s .finishes .main f₀ ≡ t
+  main-is = inv .main-tasks t (runs .low) (runs .high) is-main .2
+
+  ends : FinishTurned s₁
+  ends = turns s f₀ 1 3 0 (s₁ .tasks .status) inv is-active (omega arith) (λ q. omega arith) (omega arith) (omega arith) (omega arith)
+      (λ _. rw main-is (runs .running)) (λ _. (is-published, refl)) (λ e. absurd (omega arith)) (rw main-is by-row)
+
+  -- no release of an active finish is on its way
+  no-release : (g : ℕ) → g ≡ f₀ → ofFinish s 8 g ≡ 0
+  no-release g q = inv .release-none g (λ e. omega (arith, ap (s .finishes .status) q))
+
+  release-some : M.ReleaseSome s₁
+  release-some g = upd-cases (s .finishes .status) (λ w. w ≡ 3 → ofFinish s 8 g + s .books .present g ≡ 1) f₀ 3 g
+      (λ q _. omega (arith, no-release g q, inv .active-book f₀ is-active, is-published, ap (s .books .present) q))
+      (λ _. inv .release-some g)
+
+  release-none : M.ReleaseNone s₁
+  release-none g = upd-cases (s .finishes .status) (λ w. (w ≡ 3 → ⊥) → ofFinish s 8 g ≡ 0) f₀ 3 g (λ q _. no-release g q) (λ _. inv .release-none g)
 
   rest : Aside s′
-  rest = let e = ends in aside s₁ k m₀ (free .range) (free .tag) (λ q. omega arith) (λ q. omega arith) (λ q. omega arith) (omega arith) (search e)
+  rest = let e = ends in aside s₁ k m₀ (free .range) (free .tag) (λ q. omega arith) (λ q. omega arith) (λ q. omega arith) (omega arith) (search (release-some, release-none))
 
   tasks : NoTask s′
   tasks = let e = ends in no-task s₁ k m₀ (free .range) (free .tag) (omega arith) (search e)

@@ -68,6 +68,7 @@ module _ (s : State) (k : ℕ) (inv : Inv s) (full : Full s k 9) where
     ghost-made,
     book-counts,
     D.lasts s₁ k (full .range) (search inv),
+    D.release-none s₁ k (full .range) (inv .release-none),
     D.places s₁ k (full .range) (omega (arith, full .tag)) (λ q. omega (arith, full .tag)) (λ q. omega (arith, full .tag)) (search inv),
     W.counted s₁ k none (full .range) (other-tag 7 (omega arith) (λ q. omega arith)) (inv .counted),
     W.counted-denied s₁ k none (full .range) (other-tag 7 (omega arith) (λ q. omega arith)) (other-tag 11 (omega arith) (λ q. omega arith)) (inv .counted-denied),

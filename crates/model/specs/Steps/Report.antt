@@ -89,6 +89,7 @@ module _ (s : State) (k : ℕ) (inv : Inv s) (full : Full s k 7) (repaired : Rep
     counted,
     counted-denied,
     D.lasts s₁ k (full .range) (search inv),
+    D.release-none s₁ k (full .range) (inv .release-none),
     D.places s₁ k (full .range) (omega (arith, full .tag)) (λ q. omega (arith, full .tag)) (λ q. omega (arith, full .tag)) (search inv),
     W.ghosts s₁ k none (full .range) (other-tag 9 (omega arith) (λ q. omega arith)) (inv .ghosts),
   )

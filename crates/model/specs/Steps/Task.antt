@@ -234,6 +234,7 @@ module _ (s : State) (k : ℕ) (inv : Inv s) (full : Full s k 6) (alive : s .dea
     unreported,
     local-book,
     D.lasts s k (full .range) (search inv),
+    D.release-none s k (full .range) (inv .release-none),
     W.publish-some s k none (full .range) (other-tag 1 (omega arith) (λ q. omega arith)) (other-tag 2 (omega arith) (λ q. omega arith)) (inv .publish-some),
     W.release-some s k none (full .range) (other-tag 8 (omega arith) (λ q. omega arith)) (inv .release-some),
     W.ghosts s k none (full .range) (other-tag 9 (omega arith) (λ q. omega arith)) (inv .ghosts),
