@@ -1,6 +1,6 @@
 #!/usr/bin/env bash
-# The whole gate: everything proved from nothing, then what is run: the comparison with the second program, the planted
-# differences, the host. The last line is rt ci's own, 'N passed, 0 failed', and it is printed only if everything passed.
+# The whole gate: everything proved from nothing, then what is run: the printed run, the comparison with the second
+# program, the planted differences, the host. The last line is rt ci's own, 'N passed, 0 failed', and it is printed only if everything passed.
 set -euo pipefail
 cd "$(dirname "$0")/.."
 
@@ -14,6 +14,7 @@ rt ci >"$log" 2>&1 || { cat "$log" >&2; exit 1; }
 sed '$d' "$log"
 
 . tests/machine.sh
+tests/printed.sh
 rt staticlib finish
 lib=target/staticlib/libfinish.a
 tests/compare/check.sh "$lib"

@@ -9,7 +9,7 @@ use Rattle.replay.proofs.play.Tie as tie
 use Rattle.replay.proofs.play.Reads as reads
 use Rattle.replay.proofs.play.Lts as lts
 use Rattle.finish.proofs.step_at.Reads as step-at-reads
-use Rattle.replay.proofs.put_line.Reads as put-line-reads
+use Rattle.lines.proofs.put_line.Reads as put-line-reads
 
 abbrev Inv-loop : tie.InvT-loop
 Inv-loop t₀ schedule first out₀ n i₀ e₀ t out i e =

@@ -1,0 +1,67 @@
+// The lines of the printed run: a record's, put into a buffer that the caller lends, and those that say a last incomplete record and
+// the end.
+use libc::STDOUT_FILENO;
+ghost use Prim.Native.Nat.{_+_, _^_, _≤_, _<_};
+ghost use lib.ListN.{length};
+
+// Puts a number and the byte that ends it, a space or a line end.
+fn put_word(out: &mut [u8], at: usize, n: u64, end: u8) -> usize
+    requires { ⌜ at + 21 ≤ length (now out) ⌝ }
+    ensures { λ r. ⌜ r ≤ at + 21 ⌝ }
+{
+    let e = text::put_number(out, at, n);
+    out[e] = end;
+    e + 1
+}
+
+// Puts the line of a record: its number, its kind, its answer.
+pub fn put_line(out: &mut [u8], at: usize, number: u64, kind: u8, answer: u32) -> usize
+    requires { ⌜ at + 63 ≤ length (now out) ⌝ }
+    ensures { λ r. ⌜ r ≤ at + 63 ⌝ }
+{
+    let a = put_word(out, at, number, b' ');
+    let b = put_word(out, a, kind as u64, b' ');
+    put_word(out, b, answer as u64, b'\n')
+}
+
+// Says a number and a space.
+fn say_number(n: u32) {
+    io::print_decimal(STDOUT_FILENO, n as u64);
+    io::write_all(STDOUT_FILENO, b" ");
+}
+
+// Says the last line: running tasks, the status of finish 1, messages in flight.
+fn say_end(running: u32, status: u32, messages: u32) {
+    io::write_all(STDOUT_FILENO, b"end ");
+    say_number(running);
+    say_number(status);
+    io::print_decimal(STDOUT_FILENO, messages as u64);
+    io::write_all(STDOUT_FILENO, b"\n");
+}
+
+// Says a last incomplete record where the n bytes read, whose first record has this number, end in one; answers whether it was written.
+fn say_short(n: usize, first: u64) -> bool
+    requires { ⌜ (n ≤ 4096) × (first + 1024 < 2 ^ 64) ⌝ }
+{
+    if n % 4 == 0 {
+        return true;
+    }
+    if io::print_decimal(STDOUT_FILENO, first + (n / 4) as u64) {
+        return io::write_all(STDOUT_FILENO, b" short\n");
+    }
+    false
+}
+
+// After a turn that read n bytes and wrote their lines: a turn that was not full is the last, and the end is said. Answers whether
+// another turn follows.
+pub fn end_turn(n: usize, first: u64, running: u32, status: u32, messages: u32) -> bool
+    requires { ⌜ (n ≤ 4096) × (first + 1024 < 2 ^ 64) ⌝ }
+{
+    if n == 4096 {
+        return true;
+    }
+    if say_short(n, first) {
+        say_end(running, status, messages);
+    }
+    false
+}
