@@ -51,3 +51,4 @@ mod Places
 pub mod Session
 mod QuietCells
 pub mod Demand3Holds
+pub mod SentTag

@@ -1,2 +1,3 @@
 pub mod View
 pub mod Demand3
+pub mod SentTag
