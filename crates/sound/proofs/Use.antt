@@ -1,21 +1,17 @@
 -- What a sound table tells of its fields, by their names.
-use mathlib.Core.Path.{_≡_, refl, sym, ap, _∙_}
-use mathlib.Core.Bool.{Bool, true, false≢true}
+use mathlib.Core.Path.{_≡_, refl, sym, _∙_}
+use mathlib.Core.Bool.{Bool, true}
 use mathlib.Core.List.{List, [], _∷_}
-use Prim.Native.Nat.{ℕ, zero, suc, _+_, _-_, _*_, _/_, _%_, _^_, _≤_, _<_}
-use native.Mathlib.Nat.{zero-div}
+use Prim.Native.Nat.{ℕ, _+_, _-_, _*_, _≤_, _<_}
 use native.Mathlib.Omega.{arith}
 use borrow.Author.Tests.{leb-true, ltb-true, eqb-true, eq-eqb, ne-eqb}
 use lib.Dec.{ltb, leb}
-use lib.Pow.{shr-shr}
 use lib.Seq.{getD-drop, drop-drop}
 use Rattle.tables.specs.Bytes.{byte}
-use Rattle.tables.specs.Bits.{bitAt, marked}
 use Rattle.tables.specs.Walks.{every}
 use Rattle.tables.specs.Layout.{place, taskRow, finishRow, bookRow}
-use Rattle.tables.proofs.Bits.{bit-shift, marked-low, marked-high}
 use Rattle.tables.proofs.Walks.{every-each, parts-at}
-use Rattle.rules.specs.Fields.{places, deadMask, tasksMade, finishesMade, dead, taskFrom, taskAt, taskFinish, taskStatus, taskSent, taskMaker, home, opener, parent, finishStatus, isPublished, present, bookParent, adoptDue, isAdopted, taskMade, finishMade}
+use Rattle.rules.specs.Fields.{places, deadMask, tasksMade, finishesMade, taskFrom, taskAt, taskFinish, taskStatus, taskSent, taskMaker, home, opener, parent, finishStatus, isPublished, present, bookParent, adoptDue, isAdopted, taskMade, finishMade}
 use Rattle.rules.specs.Messages.{Message, none, publish, published, transit, granted, denied, task, report, release, ghostEnded, countDropped, dropped, tagged, messageIn, fromSlot, messageAt}
 use Rattle.ranges.proofs.Tags.{below, waits-tag, moves-tag, dropped-tag}
 use Rattle.rules.specs.Sound.{headSound, taskFits, finishFits, parentFits, bookFits, messageFits, taskSound, finishSound, bookSound, slotSound, tasksSound, finishesSound, booksSound, slotsSound, rowsSound, sound}
@@ -36,8 +32,6 @@ finish-made t f e = let h = every-each _ e in (leb-true 1 f (h .0), leb-true f (
 record Head (ps d fs : ℕ) : Type 0 where
   places-range : (2 ≤ ps) × (ps ≤ 8)
   finishes : fs ≤ 32
-  zero-lives : d % 2 ≡ 0
-  others-live : d / 2 ^ ps ≡ 0
 
 head-tells : (ps d fs : ℕ) → headSound ps d fs ≡ true → Head ps d fs
 unfolding headSound
@@ -46,32 +40,7 @@ head-tells ps d fs e =
     record {
       places-range = (leb-true 2 ps (h .0), leb-true ps 8 (h .1 .0));
       finishes = leb-true fs 32 (h .1 .1 .0);
-      zero-lives = eqb-true (d % 2) 0 (h .1 .1 .1 .0);
-      others-live = eqb-true (d / 2 ^ ps) 0 (h .1 .1 .1 .1 .0);
     }
-
--- a mark of the dead mask is a bit, not the lowest, and below the place count
-marked-bit : (d p : ℕ) → marked d p ≡ true → bitAt d p ≡ true
-marked-bit d p e =
-    below p 8
-    (λ low. sym (marked-low d p low) ∙ e)
-    (λ high. absurd (false≢true (sym (marked-high d p high) ∙ e)))
-
-above-zero : (d p : ℕ) → d % 2 ≡ 0 → bitAt d p ≡ true → 1 ≤ p
-unfolding bitAt
-above-zero d zero h e = let one = eqb-true (d % 2) 1 e in absurd (omega arith)
-above-zero d (suc p) h e = omega arith
-
-none-above : (d ps p : ℕ) → d / 2 ^ ps ≡ 0 → ps ≤ p → d / 2 ^ p ≡ 0
-none-above d ps p h more =
-    let sum : ps + (p - ps) ≡ p = omega arith in
-    ap (λ (x : ℕ). d / 2 ^ x) (sym sum) ∙ sym (shr-shr d ps (p - ps)) ∙ ap (λ (x : ℕ). x / 2 ^ (p - ps)) h ∙ zero-div (2 ^ (p - ps))
-
-below-places : (d ps p : ℕ) → d / 2 ^ ps ≡ 0 → bitAt d p ≡ true → p < ps
-below-places d ps p h e =
-    below p ps
-    (λ less. less)
-    (λ more. let none = none-above d ps p h more in let one = eqb-true ((d / 2 ^ p) % 2) 1 (sym (bit-shift p d) ∙ e) in absurd (omega arith))
 
 -- the head test passed, as the code holds it
 pub head-finishes : (ps d fs : ℕ) (v : Bool) → v ≡ headSound ps d fs → v ≡ true → fs ≤ 32
@@ -229,12 +198,6 @@ module _ (t : List ℕ) (s : sound t ≡ true) where
 
   pub finishes-most : finishesMade t ≤ 32
   finishes-most = head .finishes
-
-  -- The dead mask names only session places above 0.
-  pub dead-place : (p : ℕ) → dead t p ≡ true → (1 ≤ p) × (p < places t)
-  dead-place p e =
-      let bit = marked-bit (deadMask t) p e in
-      (above-zero (deadMask t) p (head .zero-lives) bit, below-places (deadMask t) (places t) p (head .others-live) bit)
 
   pub task-ranges : (k : ℕ) → Made (tasksMade t) k → TaskRanges t k
   unfolding rowsSound tasksSound taskSound

@@ -1,22 +1,16 @@
--- A change of each part in turn is a write of each part in turn: a loop of changes, the length and each byte after it, and the same change inside a larger part.
+-- A change of each part in turn is a write of each part in turn: a loop of changes, the length and each byte after it.
 use mathlib.Core.Path.{_≡_, refl, sym, ap, _∙_}
-use mathlib.Core.Bool.{Bool, true, false, cond}
 use mathlib.Core.Logic.{_⊎_, inl, inr}
-use mathlib.Core.List.{List, _++_, append-assoc}
+use mathlib.Core.List.{List, _++_}
 use Prim.Native.Nat.{ℕ, zero, suc, _+_, _-_, _*_, _≤_, _<_}
 use native.Mathlib.Nat.{add-zero, mul-suc, mul-zero}
 use native.Mathlib.Numerals.{add-one}
 use native.Mathlib.Omega.{arith}
-use lib.ListN.{set, length, drop, take, length-append, length-drop, take-append-drop, List·getD-append}
-use lib.Seq.{drop-drop, length-take-le, drop-append-add, take-append-le, drop-append-le, take-take, take-add, set-getD, getD-drop, getD-take, getD-append-add}
+use lib.ListN.{length, drop, take, length-append, length-drop, take-append-drop, List·getD-append}
+use lib.Seq.{drop-drop, length-take-le, drop-append-add, getD-drop, getD-take, getD-append-add}
 use Rattle.tables.specs.Bytes.{byte, part, write}
 use Rattle.tables.specs.Walks.{eachPart, changeParts}
 use Rattle.tables.proofs.Writes.{write-append, write-mid}
-
--- one byte written where a test holds, or written always
-pub write-or-keep : (x : Bool) (m : List ℕ) (c v : ℕ) → cond x (set m c v) m ≡ set m c (cond x v (byte m c))
-write-or-keep true m c v = refl
-write-or-keep false m c v = sym (set-getD m c 0)
 
 pub change-none : (g : List ℕ → ℕ → List ℕ) (w i k : ℕ) (t : List ℕ) → t ≡ changeParts g w i 0 k t
 unfolding changeParts eachPart
@@ -108,38 +102,6 @@ module _ (g : List ℕ → ℕ → List ℕ) (w : ℕ) (keeps : Keeps g w) where
       q ∙ rw (← place, ← number, same, e, z, add-one n)
       (write-append (take k t) (eachPart g w i n (drop k t)) (w * n) (g (take w (drop (w * n) (drop k t))) (i + n))
       ∙ ap (λ (r : List ℕ). take k t ++ r) (sym (each-turn n i (drop k t) hm)))
-
-  -- the parts of a larger part, which stands at place a
-  each-append : (n i : ℕ) (x y : List ℕ) → w * n ≤ length x → eachPart g w i n (x ++ y) ≡ eachPart g w i n x ++ y
-  unfolding eachPart
-  each-append zero i x y h = refl
-  each-append (suc n) i x y h =
-      let hw : w ≤ length x = omega (arith, mul-suc w n) in
-      let hx : w * n ≤ length (drop w x) = rw (length-drop w x) (omega (arith, mul-suc w n)) in
-      rw (take-append-le w x y hw, drop-append-le w x y hw, each-append n (suc i) (drop w x) y hx)
-      (sym (append-assoc (g (take w x) i) (eachPart g w (suc i) n (drop w x)) y))
-
-  pub change-in-part : (n i k a l : ℕ) (t : List ℕ) → k + w * n ≤ l → a + l ≤ length t → write t a (changeParts g w i n k (part t a l)) ≡ changeParts g w i n (a + k) t
-  unfolding changeParts part
-  change-in-part n i k a l t h r =
-      let x : List ℕ = take l (drop a t) in
-      let y : List ℕ = drop l (drop a t) in
-      let e : List ℕ = eachPart g w i n (drop k x) in
-      let lx : length x ≡ l = length-take-le l (drop a t) (rw (length-drop a t) (omega arith)) in
-      let lp : length (changeParts g w i n k x) ≡ l = length-change n i k x (omega arith) ∙ lx in
-      let z : a + length (changeParts g w i n k x) ≡ a + l = omega arith in
-      let hx : w * n ≤ length (drop k x) = rw (length-drop k x) (omega arith) in
-      let rest : drop k x ++ y ≡ drop k (drop a t) =
-      sym (drop-append-le k x y (omega arith)) ∙ ap (λ (r : List ℕ). drop k r) (take-append-drop l (drop a t)) in
-      write-mid (changeParts g w i n k x) t a (omega arith)
-      ∙ ap (λ (q : ℕ). take a t ++ (take k x ++ e) ++ drop q t) z
-      ∙ ap (λ (r : List ℕ). take a t ++ (take k x ++ e) ++ r) (sym (drop-drop l a t))
-      ∙ ap (λ (r : List ℕ). r ++ y) (sym (append-assoc (take a t) (take k x) e))
-      ∙ append-assoc (take a t ++ take k x) e y
-      ∙ ap (λ (r : List ℕ). take a t ++ r ++ (e ++ y)) (take-take k l (drop a t) (omega arith))
-      ∙ ap (λ (r : List ℕ). r ++ (e ++ y)) (sym (take-add a k t))
-      ∙ ap (λ (r : List ℕ). take (a + k) t ++ r) (sym (each-append n i (drop k x) y hx))
-      ∙ ap (λ (r : List ℕ). take (a + k) t ++ eachPart g w i n r) (rest ∙ drop-drop k a t)
 
   -- each byte: of the parts, and of what stands before and after them
   each-in : (n i y j : ℕ) (m : List ℕ) → y < n → j < w → w * n ≤ length m → byte (eachPart g w i n m) (w * y + j) ≡ byte (g (take w (drop (w * y) m)) (i + y)) j
