@@ -7,7 +7,10 @@ bool invariant_K1(const struct session *s, const struct census *c)
     (void)c;
     for (unsigned f = 1; f <= s->made.finishes; f++) {
         const struct finish *finish = &s->finish[f];
-        if (is_present(&s->book[f]) ? finish->status == RELEASED : finish->status == ACTIVE && finish->published == 1)
+        const bool present = is_present(&s->book[f]);
+        if (present && finish->status == RELEASED)
+            return false;
+        if (finish->status == ACTIVE && present != (finish->published == 1))
             return false;
     }
     return true;
