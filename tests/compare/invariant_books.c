@@ -1,7 +1,7 @@
 /* The invariant: store books. */
 #include "invariant.h"
 
-/* A present book has status 1, 2, 3 or 5; an absent book is not active-and-published. */
+/* A present book has status 1, 2, 3 or 5; an active finish has a book exactly when it is published. */
 bool invariant_K1(const struct session *s, const struct census *c)
 {
     (void)c;
