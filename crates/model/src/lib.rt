@@ -1,4 +1,1 @@
-// The model is specs alone; a library crate must have a function.
-pub fn keep(x: u8) -> u8 {
-    x
-}
+// The abstract machine behind demand 3: all of this crate stands in specs/.
