@@ -12,3 +12,4 @@ pub mod Steps
 pub mod Keeps
 pub mod Promises
 pub mod Reached
+pub mod Work

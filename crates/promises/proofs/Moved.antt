@@ -11,16 +11,19 @@ use Rattle.rules.specs.Deliver.{bookAbsent}
 use Rattle.rules.proofs.Taken.{not-not}
 use Rattle.model.specs.State.{State}
 use Rattle.model.specs.Guards.{Runs, HasBook, MayRun}
-use Rattle.model.specs.Step.{Move}
 use Rattle.promises.proofs.Tests.{mark-set}
 use Rattle.promises.proofs.Seen.{Seen}
 use Rattle.promises.proofs.Rows.{read-task-status}
 use Rattle.promises.proofs.BookCells.{read-present}
 use Rattle.promises.proofs.Held.{Held, task-fits, finish-fits, task-number, finish-number, present-mark}
 
--- what a taken step is: the tables after it are seen as a state that a move leads to
-abbrev pub Moved : State → List ℕ → Type 0
-Moved a u = (s′ : State) × Seen u s′ × Move a s′
+-- what a taken step is: the tables after it are seen as a state that a move of its kind leads to
+abbrev pub Moved : (State → Type 0) → List ℕ → Type 0
+Moved R u = (s′ : State) × Seen u s′ × R s′
+
+-- a move of one kind is a move
+pub moved-by : {R Q : State → Type 0} {u : List ℕ} → ((s′ : State) → R s′ → Q s′) → Moved R u → Moved Q u
+moved-by f m = (m .0, m .1, f (m .0) (m .2))
 
 -- a task that is made and running
 pub task-runs : {t : List ℕ} {a : State} → Held t a → (k : ℕ) → taskMade t k ≡ true → not (eqb (taskStatus t k) 5) ≡ false → Runs a k

@@ -21,7 +21,7 @@ use Rattle.model.specs.State.{State}
 use Rattle.model.specs.Guards.{Full, MayRun}
 use Rattle.model.specs.Effects.Deliver
 use Rattle.model.specs.Effects.Deliver.{empty}
-use Rattle.model.specs.Step.{delivers-published, delivers-granted, loses-granted, delivers-denied, delivers-task, refuses-task, delivers-release, delivers-count-dropped}
+use Rattle.model.specs.Step.{Settle, delivers-published, delivers-granted, loses-granted, delivers-denied, delivers-task, refuses-task, delivers-release, delivers-count-dropped}
 use Rattle.promises.proofs.Tests.{not-true, some-other}
 use Rattle.promises.proofs.Rows.{read-places, read-tasks-made, read-finishes-made, read-dead, read-home, read-task-status, read-finish-status, read-task-maker, read-opener}
 use Rattle.promises.proofs.Slots.{countsAt, read-message, read-slots}
@@ -67,7 +67,7 @@ module _ {t : List ℕ} {a : State} (h : Held t a) (k : ℕ) (taken : StepTaken 
   place-in v r = omega (arith, read-places (h .seen), places-most h)
 
   module _ (f x v j n : ℕ) where
-    pub published-moves : a .slot k .tag ≡ 2 → messageAt t k ≡ published f x → a .slot k .finish ≡ f → a .slot k .task ≡ x → Moved a (deliverStep t k)
+    pub published-moves : a .slot k .tag ≡ 2 → messageAt t k ≡ published f x → a .slot k .finish ≡ f → a .slot k .task ≡ x → Moved (Settle a) (deliverStep t k)
     unfolding deliverStep deliverMessage discarded delivered fits goesTo
     published-moves e m is-finish is-task =
         let s = h .seen in
@@ -98,7 +98,7 @@ module _ {t : List ℕ} {a : State} (h : Held t a) (k : ℕ) (taken : StepTaken 
         )
 
     module _ (is-finish : a .slot k .finish ≡ f) (is-task : a .slot k .task ≡ x) (is-from : a .slot k .from ≡ v) (is-to : a .slot k .to ≡ j) where
-      pub granted-moves : a .slot k .tag ≡ 4 → messageAt t k ≡ granted f x v j → Moved a (deliverStep t k)
+      pub granted-moves : a .slot k .tag ≡ 4 → messageAt t k ≡ granted f x v j → Moved (Settle a) (deliverStep t k)
       unfolding deliverStep deliverMessage discarded delivered fits goesTo
       granted-moves e m =
           let s = h .seen in
@@ -114,7 +114,7 @@ module _ {t : List ℕ} {a : State} (h : Held t a) (k : ℕ) (taken : StepTaken 
           (λ d. (Deliver.loseGranted a k, tie-lose-granted s k k-there x (x-in .0) (own .number) is-task f v j is-finish is-from is-to (own .maker) d, loses-granted k (full 4 e) lives status may (rw is-to d)))
           (λ d. (Deliver.deliverGranted a k, tie-deliver-granted s k k-there x (x-in .0) (own .number) is-task f v j is-finish is-from is-to (own .maker) d, delivers-granted k (full 4 e) lives status may (rw is-to d))))
 
-      pub denied-moves : a .slot k .tag ≡ 5 → messageAt t k ≡ denied f x v j → Moved a (deliverStep t k)
+      pub denied-moves : a .slot k .tag ≡ 5 → messageAt t k ≡ denied f x v j → Moved (Settle a) (deliverStep t k)
       unfolding deliverStep deliverMessage discarded delivered fits goesTo
       denied-moves e m =
           let s = h .seen in
@@ -129,7 +129,7 @@ module _ {t : List ℕ} {a : State} (h : Held t a) (k : ℕ) (taken : StepTaken 
             delivers-denied k (full 5 e) (rw is-from (sym (read-dead s v) ∙ g .alive)) (rw (← is-task) at (w .0)) (rw (← is-task) at (w .1)),
           )
 
-      pub task-moves : a .slot k .tag ≡ 6 → messageAt t k ≡ task f x v j → Moved a (deliverStep t k)
+      pub task-moves : a .slot k .tag ≡ 6 → messageAt t k ≡ task f x v j → Moved (Settle a) (deliverStep t k)
       unfolding deliverStep deliverMessage discarded delivered fits goesTo deliverTask someOf
       task-moves e m =
           let s = h .seen in
@@ -152,7 +152,7 @@ module _ {t : List ℕ} {a : State} (h : Held t a) (k : ℕ) (taken : StepTaken 
             delivers-task k (full 6 e) lives (sym is-denied ∙ d) (rw is-task (sym (read-task-status s x (x-in .0) x256) ∙ eqb-true (taskStatus t x) 3 (w .0))),
           )))
 
-      pub count-dropped-moves : a .slot k .tag ≡ 10 → a .slot k .number ≡ n → messageAt t k ≡ countDropped f x v j n → Moved a (deliverStep t k)
+      pub count-dropped-moves : a .slot k .tag ≡ 10 → a .slot k .number ≡ n → messageAt t k ≡ countDropped f x v j n → Moved (Settle a) (deliverStep t k)
       unfolding deliverStep deliverMessage discarded delivered fits goesTo
       count-dropped-moves e is-number m =
           let s = h .seen in
@@ -169,7 +169,7 @@ module _ {t : List ℕ} {a : State} (h : Held t a) (k : ℕ) (taken : StepTaken 
                 (rw (is-finish, is-to, is-from, is-number) (omega (arith, leb-true (received t f j v) n (g .fit), read-received s f j (f-in .0) f33 j8 v v8))),
           )
 
-    pub release-moves : a .slot k .tag ≡ 8 → messageAt t k ≡ release f → a .slot k .finish ≡ f → Moved a (deliverStep t k)
+    pub release-moves : a .slot k .tag ≡ 8 → messageAt t k ≡ release f → a .slot k .finish ≡ f → Moved (Settle a) (deliverStep t k)
     unfolding deliverStep deliverMessage discarded delivered fits goesTo
     release-moves e m is-finish =
         let s = h .seen in

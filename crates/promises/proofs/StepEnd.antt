@@ -19,6 +19,7 @@ use Rattle.rules.proofs.Taken.{StepTaken, not-not}
 use Rattle.model.specs.Base.Cases.{bool-cases}
 use Rattle.model.specs.State.{State}
 use Rattle.model.specs.Effects.End.{endUnpublished, endPublished, endOther, endLast}
+use Rattle.model.specs.Step
 use Rattle.model.specs.Step.{ends-unpublished, ends-published, ends-other, ends-last}
 use Rattle.promises.proofs.Tests.{not-both, below-all}
 use Rattle.promises.proofs.Rows.{read-task-at, read-task-finish, read-task-sent, read-published, read-finish-status, read-home, read-opener}
@@ -29,7 +30,7 @@ use Rattle.promises.proofs.Moved.{Moved, task-runs, may-run}
 use Rattle.promises.proofs.TieEnd.{tie-end-unpublished, tie-end-published, tie-end-earlier, tie-end-last}
 
 module _ {t : List ℕ} {a : State} (h : Held t a) (k : ℕ) (taken : StepTaken t (end k)) where
-  pub end-moves : Moved a (endStep t k)
+  pub end-moves : Moved (Step.End a k) (endStep t k)
   unfolding notThere notReady noRoom unwanted endStep endMain End.endOther endSends endWanted endMainWanted endOtherWanted eachAtMost isMain
   end-moves =
       let s = h .seen in
@@ -57,12 +58,12 @@ module _ {t : List ℕ} {a : State} (h : Held t a) (k : ℕ) (taken : StepTaken 
       let active : a .finishes .status f ≡ 1 = sym (read-finish-status s f f0 f33) ∙ eqb-true (finishStatus t f) 1 (w .0) in
       bool-cases (eqb (isPublished t f) 0)
       (λ e. let may = may-run s (a .finishes .opener f) (own .opener) (rw (read-opener s f f0 f33) at (rw e at (w .1 .0))) in
-      rw (m, e) (endUnpublished a k, tie-end-unpublished s k f k0 k256 refl f0 f33 (own .opener), ends-unpublished k runs main (sym is-shown ∙ eqb-true (isPublished t f) 0 e) active may))
+      rw (m, e) (endUnpublished a k, tie-end-unpublished s k f k0 k256 refl f0 f33 (own .opener), ends-unpublished runs main (sym is-shown ∙ eqb-true (isPublished t f) 0 e) active may))
       (λ e. let full : slotsFull t ≡ false = not-both _ _ room (rw (m, e) refl) in
       rw (m, e, read-home s f f0 f33) (
         endPublished a k i,
         tie-end-published s k f k0 k256 refl f0 f33 i (lowest-range s full) (own .home),
-        ends-published k i runs main (λ z. eqb-false (isPublished t f) 0 e (is-shown ∙ z)) active (lowest-free s full),
+        ends-published i runs main (λ z. eqb-false (isPublished t f) 0 e (is-shown ∙ z)) active (lowest-free s full),
       )))
       (λ m. let other : a .tasks .sent k ≡ 0 → ⊥ = λ z. eqb-false (taskSent t k) 0 m (is-sent ∙ z) in
       let w = every-each _ (rw m at wanted) in
@@ -73,10 +74,10 @@ module _ {t : List ℕ} {a : State} (h : Held t a) (k : ℕ) (taken : StepTaken 
       rw (m, e) (
         endLast a k i,
         tie-end-last s k f k0 k256 refl f0 f33 p refl p8 i (lowest-range s full) one,
-        ends-last k i runs other one (lowest-free s full) (at-most f p f0 f33 p8 (rw e at (w .1 .0))),
+        ends-last i runs other one (lowest-free s full) (at-most f p f0 f33 p8 (rw e at (w .1 .0))),
       ))
       (λ e. let n = eqb-false (localLive t f p) 1 e in
-      rw (m, e) (endOther a k, tie-end-earlier s k f k0 k256 refl f0 f33 p refl p8, ends-other k runs other (omega arith)))))
+      rw (m, e) (endOther a k, tie-end-earlier s k f k0 k256 refl f0 f33 p refl p8, ends-other runs other (omega arith)))))
     where
       at-most : (f p : ℕ) → 0 < f → f < 33 → p < 8 → eachAtMost (reportedRow t f p) (receivedRow t f p) ≡ true → (i : ℕ) → a .locals .reported f p i ≤ a .locals .received f p i
       at-most f p f0 f33 p8 e i =

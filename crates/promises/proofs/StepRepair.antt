@@ -24,7 +24,8 @@ use Rattle.model.specs.Effects.Kill
 use Rattle.model.specs.Effects.Repair
 use Rattle.model.specs.Inv.Rows.{StatusMade, BlankFinishes}
 use Rattle.model.specs.Inv.Cells.{CellPlaces}
-use Rattle.model.specs.Step.{kills, adopts, cancels, asks}
+use Rattle.model.specs.Step
+use Rattle.model.specs.Step.{kills, Settle, adopts, cancels, asks}
 use Rattle.promises.proofs.Tests.{none-of-three, not-both}
 use Rattle.promises.proofs.Rows.{read-places, read-dead}
 use Rattle.promises.proofs.Slots.{lowest-range, lowest-free}
@@ -43,7 +44,7 @@ module _ {t : List ℕ} {a : State} (h : Held t a) where
   unfolding inSession
   inside p e = omega (arith, ltb-true p (places t) e, read-places (h .seen))
 
-  pub kill-moves : (p : ℕ) → StepTaken t (kill p) → StatusMade a → BlankFinishes a → CellPlaces a → Moved a (killStep t p)
+  pub kill-moves : (p : ℕ) → StepTaken t (kill p) → StatusMade a → BlankFinishes a → CellPlaces a → Moved (Step.Kill a p) (killStep t p)
   unfolding notThere wrongPlace
   kill-moves p taken no-task no-finish cells =
       let s = h .seen in
@@ -51,9 +52,9 @@ module _ {t : List ℕ} {a : State} (h : Held t a) where
       let w = neither (eqb p 0) (dead t p) (taken .right-place) in
       let n = eqb-false p 0 (w .0) in
       let ok : Killable a = record { places = places-most h; tasks = tasks-most h; finishes = finishes-made-most h; no-task = no-task; no-finish = no-finish; cells = cells; names = λ k n. let r = slot-names h k n in (r .0, omega (arith, r .1, finishes-made-most h)) } in
-      (Kill.kill a p, tie-kill s ok p (omega arith) (omega (arith, places-most h)), kills p (omega arith) p-in (sym (read-dead s p) ∙ w .1))
+      (Kill.kill a p, tie-kill s ok p (omega arith) (omega (arith, places-most h)), kills (omega arith) p-in (sym (read-dead s p) ∙ w .1))
 
-  pub adopt-moves : (f : ℕ) → StepTaken t (adopt f) → Moved a (adoptStep t f)
+  pub adopt-moves : (f : ℕ) → StepTaken t (adopt f) → Moved (Settle a) (adoptStep t f)
   unfolding notThere notReady
   adopt-moves f taken =
       let s = h .seen in
@@ -64,7 +65,7 @@ module _ {t : List ℕ} {a : State} (h : Held t a) where
       let n = eqb-false (adoptDue t f) 0 (r .1) in
       (Repair.adopt a f, tie-adopt s f f0 f33, adopts f has (omega (arith, read-due s f f0 f33, book-marks h f f0 f33 (has .present) .0)))
 
-  pub cancel-moves : (f v : ℕ) → StepTaken t (cancel f v) → Moved a (cancelStep t f v)
+  pub cancel-moves : (f v : ℕ) → StepTaken t (cancel f v) → Moved (Settle a) (cancelStep t f v)
   unfolding notThere wrongPlace notReady noRoom cancelStep cancelled
   cancel-moves f v taken =
       let s = h .seen in
@@ -84,7 +85,7 @@ module _ {t : List ℕ} {a : State} (h : Held t a) where
       (λ e. let full : slotsFull t ≡ false = not-both _ _ (taken .room) e in (lowest-free s full .range, lowest-range s full, lowest-free s full .tag)) in
       (c .0, c .1, cancels f v k (some .0) has v-in died (omega (arith, read-due s f f0 f33, marks .0)) (some .1) (c .2))
 
-  pub ask-moves : (f v j : ℕ) → StepTaken t (ask f v j) → Moved a (askStep t f v j)
+  pub ask-moves : (f v j : ℕ) → StepTaken t (ask f v j) → Moved (Settle a) (askStep t f v j)
   unfolding notThere wrongPlace notReady mustWait noRoom
   ask-moves f v j taken =
       let s = h .seen in

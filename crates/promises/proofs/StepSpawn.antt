@@ -16,7 +16,7 @@ use Rattle.model.specs.Base.Cases.{bool-cases, both}
 use Rattle.model.specs.State.{State}
 use Rattle.model.specs.Effects.Spawn.{spawnFirst, spawnLater}
 use Rattle.model.specs.Effects.Open
-use Rattle.model.specs.Step.{spawns-first, spawns-later, opens}
+use Rattle.model.specs.Step.{Spawn, Move, spawns-first, spawns-later, opens}
 use Rattle.promises.proofs.Rows.{read-places, read-tasks-made, read-finishes-made, read-task-at, read-task-finish, read-task-sent, read-published, read-finish-status}
 use Rattle.promises.proofs.Slots.{lowest-range, lowest-free}
 use Rattle.promises.proofs.Held.{Held, finishes-made-most, task-fits}
@@ -24,7 +24,7 @@ use Rattle.promises.proofs.Moved.{Moved, task-runs}
 use Rattle.promises.proofs.TieSpawn.{tie-spawn-first, tie-spawn-later, tie-open}
 
 module _ {t : List ℕ} {a : State} (h : Held t a) (k : ℕ) where
-  pub spawn-moves : (p : ℕ) → StepTaken t (spawn k p) → Moved a (spawnStep t k p)
+  pub spawn-moves : (p : ℕ) → StepTaken t (spawn k p) → Moved (Spawn a k p) (spawnStep t k p)
   unfolding notThere wrongPlace notReady noRoom unwanted spawnStep isFirst isMain spawnWanted inSession
   spawn-moves p taken =
       let s = h .seen in
@@ -53,15 +53,15 @@ module _ {t : List ℕ} {a : State} (h : Held t a) (k : ℕ) where
       (λ e. let first = every-each _ e in
       let main : a .tasks .sent k ≡ 0 = sym is-sent ∙ eqb-true (taskSent t k) 0 (first .0) in
       let hidden : a .finishes .published f ≡ 0 = sym is-published ∙ eqb-true (isPublished t (taskFinish t k)) 0 (first .1 .0) in
-      rw e (spawnFirst a k p i, tie-spawn-first s k k0 k256 made p i f0 f33 i128, spawns-first k p i runs inside away free main hidden (active main)))
+      rw e (spawnFirst a k p i, tie-spawn-first s k k0 k256 made p i f0 f33 i128, spawns-first i runs inside away free main hidden (active main)))
       (λ e. rw e (
         spawnLater a k p i,
         tie-spawn-later s k k0 k256 made p i i128,
-        spawns-later k p i runs inside away free (λ main.
+        spawns-later i runs inside away free (λ main.
             ((λ hidden. both (each-every _ (eq-eqb (taskSent t k) 0 (is-sent ∙ main), (eq-eqb (isPublished t (taskFinish t k)) 0 (is-published ∙ hidden), tt))) e), active main)),
       ))
 
-  pub open-moves : StepTaken t (openFinish k) → Moved a (openStep t k)
+  pub open-moves : StepTaken t (openFinish k) → Moved (Move a) (openStep t k)
   unfolding notThere notReady noRoom
   open-moves taken =
       let s = h .seen in

@@ -28,7 +28,7 @@ use Rattle.model.specs.Guards.{Repaired, Discarded, publish-lost, transit-lost,
 use Rattle.model.specs.Effects.Closing.{Closing}
 use Rattle.model.specs.Effects.Deliver
 use Rattle.model.specs.Effects.Deliver.{empty}
-use Rattle.model.specs.Step.{discards, delivers-publish, delivers-transit, refuses-transit, delivers-report, delivers-ghost-ended, delivers-dropped}
+use Rattle.model.specs.Step.{Settle, discards, delivers-publish, delivers-transit, refuses-transit, delivers-report, delivers-ghost-ended, delivers-dropped}
 use Rattle.promises.proofs.Tests.{one-of, below-all, mark-set}
 use Rattle.promises.proofs.Seen.{Seen}
 use Rattle.promises.proofs.Rows.{read-dead, read-home, read-finish-status}
@@ -68,7 +68,7 @@ module _ {t : List ℕ} {a : State} (h : Held t a) (k : ℕ) (taken : StepTaken 
   lost : (p q : ℕ) → p ≡ q → someOf (dead t p ∷ bookAbsent t f ∷ []) ≡ true → (a .dead q ≡ true) ⊎ (a .books .present (a .slot k .finish) ≡ 0)
   lost p q w e = one-of (dead t p) (bookAbsent t f) e (λ y. inl (rw (← w) (sym (read-dead (h .seen) p) ∙ y))) (λ y. inr (absent y))
 
-  thrown : Discarded a k → (y : Message) → messageAt t k ≡ y → discarded t y ≡ true → Moved a (deliverStep t k)
+  thrown : Discarded a k → (y : Message) → messageAt t k ≡ y → discarded t y ≡ true → Moved (Settle a) (deliverStep t k)
   unfolding deliverStep deliverMessage
   thrown d y m e = rw (m, e) (empty a k, tie-empty (h .seen) k (k-there h k taken), discards k (full h k taken (a .slot k .tag) refl .range) d)
 
@@ -84,7 +84,7 @@ module _ {t : List ℕ} {a : State} (h : Held t a) (k : ℕ) (taken : StepTaken 
   adopted-mark : bookAbsent t f ≡ false → a .books .adopted f ≤ 1
   adopted-mark e = book-marks h f f0 f33 (there e) .1
 
-  pub publish-moves : a .slot k .tag ≡ 1 → a .slot k .task ≡ x → messageAt t k ≡ publish f x → Moved a (deliverStep t k)
+  pub publish-moves : a .slot k .tag ≡ 1 → a .slot k .task ≡ x → messageAt t k ≡ publish f x → Moved (Settle a) (deliverStep t k)
   unfolding deliverStep deliverMessage discarded delivered fits bookAbsent
   publish-moves e is-task m =
       let s = h .seen in
@@ -104,7 +104,7 @@ module _ {t : List ℕ} {a : State} (h : Held t a) (k : ℕ) (taken : StepTaken 
             32 (a .finishes .parent f) (omega (arith, own .parent)) (omega (arith, own .parent, made .1)))),
       ))
 
-  pub transit-moves : a .slot k .tag ≡ 3 → a .slot k .task ≡ x → a .slot k .from ≡ v → a .slot k .to ≡ j → messageAt t k ≡ transit f x v j → Moved a (deliverStep t k)
+  pub transit-moves : a .slot k .tag ≡ 3 → a .slot k .task ≡ x → a .slot k .from ≡ v → a .slot k .to ≡ j → messageAt t k ≡ transit f x v j → Moved (Settle a) (deliverStep t k)
   unfolding deliverStep deliverMessage discarded delivered waitsForRepair
   transit-moves e is-task is-from is-to m =
       let s = h .seen in
@@ -124,7 +124,7 @@ module _ {t : List ℕ} {a : State} (h : Held t a) (k : ℕ) (taken : StepTaken 
       (λ y. (Deliver.refuseTransit a k, tie-refuse-transit s k (k-there h k taken) x (x-in .0) x256 is-task f v j is-finish is-from is-to f0 f33 v8 j8 y, refuses-transit k (full h k taken 3 e) lives is-there calm (rw is-to y)))
       (λ y. (Deliver.deliverTransit a k, tie-deliver-transit s k (k-there h k taken) x (x-in .0) x256 is-task f v j is-finish is-from is-to f0 f33 v8 j8 y, delivers-transit k (full h k taken 3 e) lives is-there calm (rw is-to y)))))
 
-  pub report-moves : a .slot k .tag ≡ 7 → a .slot k .from ≡ v → messageAt t k ≡ report f v (countsAt t k) → Moved a (deliverStep t k)
+  pub report-moves : a .slot k .tag ≡ 7 → a .slot k .from ≡ v → messageAt t k ≡ report f v (countsAt t k) → Moved (Settle a) (deliverStep t k)
   unfolding deliverStep deliverMessage discarded delivered reportRule waitsForRepair fits lowers
   report-moves e is-from m =
       let s = h .seen in
@@ -154,7 +154,7 @@ module _ {t : List ℕ} {a : State} (h : Held t a) (k : ℕ) (taken : StepTaken 
           omega (arith, leb-true (byte c i) (byte b (8 + 8 * i + v)) (below-all (λ i. leb (byte c i) (byte b (8 + 8 * i + v))) 8 l i i8), square-in b 8 i v i8 v8))
           (λ y. let z : byte c i ≡ 0 = List·getD-eq-default c 0 (omega (arith, ltb-false i 8 y, counts-length s k (k-there h k taken))) in omega arith)
 
-  pub ghost-ended-moves : (g : ℕ) → a .slot k .tag ≡ 9 → a .slot k .number ≡ g → messageAt t k ≡ ghostEnded f g → Moved a (deliverStep t k)
+  pub ghost-ended-moves : (g : ℕ) → a .slot k .tag ≡ 9 → a .slot k .number ≡ g → messageAt t k ≡ ghostEnded f g → Moved (Settle a) (deliverStep t k)
   unfolding deliverStep deliverMessage discarded delivered ghostEndedRule waitsForRepair
   ghost-ended-moves g e is-number m =
       let s = h .seen in
@@ -167,7 +167,7 @@ module _ {t : List ℕ} {a : State} (h : Held t a) (k : ℕ) (taken : StepTaken 
       let end = closed (tie-ghost-ended s k (k-there h k taken) f is-finish f0 f33 g is-number (g-in .0) g33) (bytes-emptied (bytes-ghost-ended (h .bytes) f g) k) (adopted-mark d) emptied in
       rw (m, d) (end .0, end .1, delivers-ghost-ended k (full h k taken 9 e) (rw is-finish (there d)) (repaired d (go .calm)) (end .2)))
 
-  pub dropped-moves : a .slot k .tag ≡ 11 → a .slot k .from ≡ v → a .slot k .to ≡ j → a .slot k .number ≡ n → messageAt t k ≡ dropped f x v j n → Moved a (deliverStep t k)
+  pub dropped-moves : a .slot k .tag ≡ 11 → a .slot k .from ≡ v → a .slot k .to ≡ j → a .slot k .number ≡ n → messageAt t k ≡ dropped f x v j n → Moved (Settle a) (deliverStep t k)
   unfolding deliverStep deliverMessage discarded delivered droppedRule fits
   dropped-moves e is-from is-to is-number m =
       let s = h .seen in

@@ -15,11 +15,12 @@ use Rattle.rules.proofs.Taken.{StepTaken}
 use Rattle.sound.proofs.Use.{slot-tag}
 use Rattle.model.specs.Base.Cases.{both}
 use Rattle.model.specs.State.{State}
+use Rattle.model.specs.Step.{Settle, Move, spawns, ends, loses, settles}
 use Rattle.model.specs.Inv.{Inv}
 use Rattle.promises.proofs.Tags.{by-tag}
 use Rattle.promises.proofs.Slots.{read-tag, read-empty}
 use Rattle.promises.proofs.Held.{Held}
-use Rattle.promises.proofs.Moved.{Moved}
+use Rattle.promises.proofs.Moved.{Moved, moved-by}
 use Rattle.promises.proofs.StepSpawn.{spawn-moves, open-moves}
 use Rattle.promises.proofs.StepEnd.{end-moves}
 use Rattle.promises.proofs.StepRepair.{kill-moves, adopt-moves, cancel-moves, ask-moves}
@@ -27,7 +28,7 @@ use Rattle.promises.proofs.StepDeliver.{k-there, message-by, ranges, pu
 use Rattle.promises.proofs.StepStore.{publish-moves, transit-moves, report-moves, ghost-ended-moves, dropped-moves}
 
 -- deliver, by the message's tag
-deliver-moves : {t : List ℕ} {a : State} → Held t a → (k : ℕ) → StepTaken t (deliver k) → Moved a (deliverStep t k)
+pub deliver-moves : {t : List ℕ} {a : State} → Held t a → (k : ℕ) → StepTaken t (deliver k) → Moved (Settle a) (deliverStep t k)
 unfolding notReady tagged
 deliver-moves {t} {a} h k own =
     let s = h .seen in
@@ -48,15 +49,15 @@ deliver-moves {t} {a} h k own =
 
 -- every action but begin
 module _ {t : List ℕ} {a : State} (h : Held t a) (inv : Inv a) where
-  pub action-moves : (x : Action) → noAction x ≡ false → isBegin x ≡ false → StepTaken t x → Moved a (step t x)
+  pub action-moves : (x : Action) → noAction x ≡ false → isBegin x ≡ false → StepTaken t x → Moved (Move a) (step t x)
   unfolding noAction isBegin step
   action-moves unknown q n own = both refl q
-  action-moves (spawn k p) q n own = spawn-moves h k p own
+  action-moves (spawn k p) q n own = moved-by (λ _ m. spawns k p m) (spawn-moves h k p own)
   action-moves (openFinish k) q n own = open-moves h k own
-  action-moves (end k) q n own = end-moves h k own
-  action-moves (deliver k) q n own = deliver-moves h k own
-  action-moves (kill p) q n own = kill-moves h p own (inv .status-made) (inv .blank-finishes) (inv .cell-places)
-  action-moves (adopt f) q n own = adopt-moves h f own
-  action-moves (cancel f v) q n own = cancel-moves h f v own
-  action-moves (ask f v j) q n own = ask-moves h f v j own
+  action-moves (end k) q n own = moved-by (λ _ m. ends k m) (end-moves h k own)
+  action-moves (deliver k) q n own = moved-by (λ _ m. settles m) (deliver-moves h k own)
+  action-moves (kill p) q n own = moved-by (λ _ m. loses p m) (kill-moves h p own (inv .status-made) (inv .blank-finishes) (inv .cell-places))
+  action-moves (adopt f) q n own = moved-by (λ _ m. settles m) (adopt-moves h f own)
+  action-moves (cancel f v) q n own = moved-by (λ _ m. settles m) (cancel-moves h f v own)
+  action-moves (ask f v j) q n own = moved-by (λ _ m. settles m) (ask-moves h f v j own)
   action-moves (begin m) q n own = both refl n

@@ -8,7 +8,7 @@ use Rattle.model.specs.Base.{upd, upd-other}
 use Rattle.model.specs.State.{State, Finishes}
 use Rattle.model.specs.Effects.Kill.{losesFinish}
 use Rattle.model.specs.Effects.Closing.{Closing, stays, ends-ghost, releases, vanishes}
-use Rattle.model.specs.Step.{Move, spawns-first, spawns-later, opens, ends-unpublished, ends-published, ends-other, ends-last, kills, adopts, cancels, asks, discards, delivers-publish, delivers-published, delivers-transit, refuses-transit, delivers-granted, loses-granted, delivers-denied, delivers-task, refuses-task, delivers-report, delivers-release, delivers-ghost-ended, delivers-count-dropped, delivers-dropped}
+use Rattle.model.specs.Step.{Spawn, spawns-first, spawns-later, End, ends-unpublished, ends-published, ends-other, ends-last, kills, Settle, adopts, cancels, asks, discards, delivers-publish, delivers-published, delivers-transit, refuses-transit, delivers-granted, loses-granted, delivers-denied, delivers-task, refuses-task, delivers-report, delivers-release, delivers-ghost-ended, delivers-count-dropped, delivers-dropped, Move, spawns, opens, ends, loses, settles}
 use Rattle.model.specs.Inv.{Inv}
 
 -- the closing test leaves the finishes
@@ -34,30 +34,39 @@ spared p home v e = rw e (go (eqb home p))
     go true = refl
     go false = refl
 
+spawn-stays : {s s′ : State} {t p : ℕ} (f : ℕ) → Inv s → Spawn s t p s′ → s .finishes .status f ≡ 4 → s′ .finishes .status f ≡ 4
+spawn-stays {s} {t = t} f inv (spawns-first k a b c d e g st) r = elsewhere (s .finishes .status) (s .tasks .finish t) 2 f (λ q. omega arith) r
+spawn-stays f inv (spawns-later k a b c d e) r = r
+
+end-stays : {s s′ : State} {t : ℕ} (f : ℕ) → Inv s → End s t s′ → s .finishes .status f ≡ 4 → s′ .finishes .status f ≡ 4
+end-stays {s} {t = t} f inv (ends-unpublished a b c st e) r = elsewhere (s .finishes .status) (s .tasks .finish t) 4 f (λ q. omega arith) r
+end-stays {s} {t = t} f inv (ends-published k a b c st e) r = elsewhere (s .finishes .status) (s .tasks .finish t) 3 f (λ q. omega arith) r
+end-stays f inv (ends-other a b c) r = r
+end-stays f inv (ends-last k a b c d e) r = r
+
+settle-stays : {s s′ : State} (f : ℕ) → Inv s → Settle s s′ → s .finishes .status f ≡ 4 → s′ .finishes .status f ≡ 4
+settle-stays f inv (adopts x a b) r = r
+settle-stays f inv (cancels x v k i a b c d e g) r = closed f g r
+settle-stays f inv (asks x v j k a b c d e g h i l) r = r
+settle-stays f inv (discards k a b) r = r
+settle-stays f inv (delivers-publish k q a b c d e) r = r
+settle-stays {s} f inv (delivers-published k a b st c) r = elsewhere (s .finishes .status) (s .slot k .finish) 1 f (λ q. omega arith) r
+settle-stays f inv (delivers-transit k a b c d e) r = r
+settle-stays f inv (refuses-transit k a b c d e) r = r
+settle-stays f inv (delivers-granted k a b c d e) r = r
+settle-stays f inv (loses-granted k a b c d e) r = r
+settle-stays f inv (delivers-denied k a b c d) r = r
+settle-stays f inv (delivers-task k a b c d) r = r
+settle-stays f inv (refuses-task k a b c) r = r
+settle-stays f inv (delivers-report k a b c d e g) r = closed f g r
+settle-stays {s} f inv (delivers-release k a b st c) r = elsewhere (s .finishes .status) (s .slot k .finish) 4 f (λ q. omega arith) r
+settle-stays f inv (delivers-ghost-ended k a b c d) r = closed f d r
+settle-stays f inv (delivers-count-dropped k a b c) r = r
+settle-stays f inv (delivers-dropped k a b c d e) r = closed f e r
+
 pub released-stays : {s s′ : State} (f : ℕ) → Inv s → Move s s′ → s .finishes .status f ≡ 4 → s′ .finishes .status f ≡ 4
-released-stays {s} f inv (spawns-first t p k a b c d e g st) r = elsewhere (s .finishes .status) (s .tasks .finish t) 2 f (λ q. omega arith) r
-released-stays f inv (spawns-later t p k a b c d e) r = r
+released-stays f inv (spawns t p m) r = spawn-stays f inv m r
 released-stays {s} f inv (opens t a) r = elsewhere (s .finishes .status) (suc (s .finishes .made)) 1 f (λ q. omega (arith, inv .finish-made (suc (s .finishes .made)) (omega arith))) r
-released-stays {s} f inv (ends-unpublished t a b c st e) r = elsewhere (s .finishes .status) (s .tasks .finish t) 4 f (λ q. omega arith) r
-released-stays {s} f inv (ends-published t k a b c st e) r = elsewhere (s .finishes .status) (s .tasks .finish t) 3 f (λ q. omega arith) r
-released-stays f inv (ends-other t a b c) r = r
-released-stays f inv (ends-last t k a b c d e) r = r
-released-stays {s} f inv (kills p a b c) r = spared p (s .finishes .home f) (s .finishes .status f) r
-released-stays f inv (adopts x a b) r = r
-released-stays f inv (cancels x v k i a b c d e g) r = closed f g r
-released-stays f inv (asks x v j k a b c d e g h i l) r = r
-released-stays f inv (discards k a b) r = r
-released-stays f inv (delivers-publish k q a b c d e) r = r
-released-stays {s} f inv (delivers-published k a b st c) r = elsewhere (s .finishes .status) (s .slot k .finish) 1 f (λ q. omega arith) r
-released-stays f inv (delivers-transit k a b c d e) r = r
-released-stays f inv (refuses-transit k a b c d e) r = r
-released-stays f inv (delivers-granted k a b c d e) r = r
-released-stays f inv (loses-granted k a b c d e) r = r
-released-stays f inv (delivers-denied k a b c d) r = r
-released-stays f inv (delivers-task k a b c d) r = r
-released-stays f inv (refuses-task k a b c) r = r
-released-stays f inv (delivers-report k a b c d e g) r = closed f g r
-released-stays {s} f inv (delivers-release k a b st c) r = elsewhere (s .finishes .status) (s .slot k .finish) 4 f (λ q. omega arith) r
-released-stays f inv (delivers-ghost-ended k a b c d) r = closed f d r
-released-stays f inv (delivers-count-dropped k a b c) r = r
-released-stays f inv (delivers-dropped k a b c d e) r = closed f e r
+released-stays f inv (ends t m) r = end-stays f inv m r
+released-stays {s} f inv (loses p (kills a b c)) r = spared p (s .finishes .home f) (s .finishes .status f) r
+released-stays f inv (settles m) r = settle-stays f inv m r
