@@ -1,5 +1,5 @@
-// The lines of the printed run: a record's, put into a buffer that the caller lends, and those that say a last incomplete record and
-// the end.
+// The lines of the programs: a record's of the printed run and a step's of a tree, put into a buffer that the caller lends, and those
+// that say a last incomplete record and the end.
 use libc::STDOUT_FILENO;
 ghost use Prim.Native.Nat.{_+_, _^_, _≤_, _<_};
 ghost use lib.ListN.{length};
@@ -30,12 +30,13 @@ fn say_number(n: u32) {
     io::write_all(STDOUT_FILENO, b" ");
 }
 
-// Says the last line: running tasks, the status of finish 1, messages in flight.
-fn say_end(running: u32, status: u32, messages: u32) {
+// Says the last line: of the printed run its running tasks, the status of finish 1 and the messages in flight; of a tree its steps,
+// kills and zero answers.
+pub fn say_end(a: u32, b: u32, c: u32) {
     io::write_all(STDOUT_FILENO, b"end ");
-    say_number(running);
-    say_number(status);
-    io::print_decimal(STDOUT_FILENO, messages as u64);
+    say_number(a);
+    say_number(b);
+    io::print_decimal(STDOUT_FILENO, c as u64);
     io::write_all(STDOUT_FILENO, b"\n");
 }
 
@@ -64,4 +65,26 @@ pub fn end_turn(n: usize, first: u64, running: u32, status: u32, messages: u32) 
         say_end(running, status, messages);
     }
     false
+}
+
+// Puts a byte as a number and the byte that ends it.
+fn put_small(out: &mut [u8], at: usize, n: u8, end: u8) -> usize
+    requires { ⌜ at + 4 ≤ length (now out) ⌝ }
+    ensures { λ r. ⌜ r ≤ at + 4 ⌝ }
+{
+    let e = text::put_byte(out, at, n);
+    out[e] = end;
+    e + 1
+}
+
+// Puts the line of a step, whose five bytes stand at place k of a log: the record's four numbers and the answer.
+pub fn put_step(out: &mut [u8], at: usize, log: &[u8], k: usize) -> usize
+    requires { ⌜ (at + 20 ≤ length (now out)) × (k + 5 ≤ length (now log)) ⌝ }
+    ensures { λ r. ⌜ r ≤ at + 20 ⌝ }
+{
+    let a = put_small(out, at, log[k], b' ');
+    let b = put_small(out, a, log[k + 1], b' ');
+    let c = put_small(out, b, log[k + 2], b' ');
+    let d = put_small(out, c, log[k + 3], b' ');
+    put_small(out, d, log[k + 4], b'\n')
 }

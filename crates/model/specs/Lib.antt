@@ -13,3 +13,5 @@ pub mod Keeps
 pub mod Promises
 pub mod Reached
 pub mod Work
+pub mod Kept
+pub mod Adds

@@ -28,3 +28,12 @@ pub fn put_number(out: &mut [u8], at: usize, n: u64) -> usize
 {
     put_digits(out, at, n, 20)
 }
+
+// The same for a byte: at most three digits.
+pub fn put_byte(out: &mut [u8], at: usize, n: u8) -> usize
+    requires { ⌜ at + 3 ≤ length (now out) ⌝ }
+    ensures { λ r. ⌜ now (out .exit) ≡ write (now (out .entry)) at (decimal 3 n) ⌝ }
+    ensures { λ r. ⌜ (r ≡ at + length (decimal 3 n)) × (r ≤ at + 3) ⌝ }
+{
+    put_digits(out, at, n as u64, 3)
+}

@@ -1,6 +1,6 @@
--- Sums over a range, and what a point update does to them.
+-- Sums over a range, what a point update does to them, and what terms that rise do.
 use mathlib.Core.Path.{_≡_, refl, sym, ap}
-use Prim.Native.Nat.{ℕ, zero, suc, _+_, _≤_, _<_}
+use Prim.Native.Nat.{ℕ, zero, suc, _+_, _*_, _≤_, _<_}
 use native.Mathlib.Omega.{arith}
 use Rattle.model.specs.Base.Cases.{eq-cases}
 use Rattle.model.specs.Base.Updates.{upd, upd-same, upd-other}
@@ -77,3 +77,25 @@ sum-upd₂ n g f k v l w a b ne =
 pub sum-two : (n : ℕ) (φ : ℕ → ℕ) (k l : ℕ) → k < n → l < n → (k ≡ l → ⊥) → φ k + φ l ≤ sum n φ
 sum-two n φ k l a b ne =
     omega (arith, sum-upd n (λ x v. v) φ k 0 a, sum-ge n (upd φ k 0) l b, upd-other φ k 0 l (λ q. ne (sym q)))
+
+-- terms that rise: each by at most c
+pub sum-add : (n c : ℕ) (φ ψ : ℕ → ℕ) → ((x : ℕ) → x < n → ψ x ≤ φ x + c) → sum n ψ ≤ sum n φ + n * c
+unfolding sum
+sum-add zero c φ ψ h = omega arith
+sum-add (suc n) c φ ψ h = omega (arith, h n (omega arith), sum-add n c φ ψ (λ x l. h x (omega arith)))
+
+-- the term of k alone rises, by at most c
+pub sum-but : (n c : ℕ) (φ ψ : ℕ → ℕ) (k : ℕ) → ψ k ≤ φ k + c → ((x : ℕ) → x < n → (x ≡ k → ⊥) → ψ x ≤ φ x) → sum n ψ ≤ sum n φ + c
+unfolding sum
+sum-but zero c φ ψ k one h = omega arith
+sum-but (suc n) c φ ψ k one h = eq-cases k n
+    (λ e. omega (arith, rw e at one, sum-mono n ψ φ (λ x l. h x (omega arith) (λ q. omega arith))))
+    (λ ne. omega (arith, h n (omega arith) (λ q. ne (sym q)), sum-but n c φ ψ k one (λ x l. h x (omega arith))))
+
+-- none falls, and the term of k rises
+pub sum-strict : (n : ℕ) (φ ψ : ℕ → ℕ) (k : ℕ) → k < n → φ k < ψ k → ((x : ℕ) → x < n → φ x ≤ ψ x) → sum n φ < sum n ψ
+unfolding sum
+sum-strict zero φ ψ k l one h = absurd (omega arith)
+sum-strict (suc n) φ ψ k l one h = eq-cases k n
+    (λ e. omega (arith, rw e at one, sum-mono n φ ψ (λ x m. h x (omega arith))))
+    (λ ne. omega (arith, h n (omega arith), sum-strict n φ ψ k (omega arith) one (λ x m. h x (omega arith))))
