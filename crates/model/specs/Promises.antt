@@ -5,3 +5,4 @@ pub mod Quiet
 pub mod Progress
 pub mod Wanted
 pub mod Ranges
+pub mod Stirs

@@ -7,28 +7,28 @@ use native.Mathlib.Omega.{arith}
 use lib.Dec.{eqb}
 use lib.ListN.{drop}
 use lib.Seq.{drop-drop, getD-drop}
-use borrow.Author.Tests.{eqb-true, eqb-false, eq-eqb, le-leb}
+use borrow.Author.Tests.{eqb-true, eqb-false}
 use Rattle.tables.specs.Bytes.{byte}
 use Rattle.tables.specs.Layout.{place, taskRow}
-use Rattle.tables.proofs.Walks.{every-each, each-every}
-use Rattle.rules.specs.Fields.{tasksMade, finishesMade, taskStatus, taskFinish, finishStatus, finishMade}
+use Rattle.tables.proofs.Walks.{every-each}
+use Rattle.rules.specs.Fields.{tasksMade, taskStatus, taskFinish, finishStatus, taskMade, finishMade}
 use Rattle.rules.specs.Step.{after}
-use Rattle.rules.specs.Quiet.{quiet, isRunning, runningTasks}
+use Rattle.rules.specs.Quiet.{isRunning, runningTasks}
 use Rattle.rules.specs.Sessions.{isBusy, isReleased, LiesIn, itself, nested}
 use Rattle.model.specs.Base.Cases.{bool-cases}
 use Rattle.model.specs.Nesting.{Under, here, up}
 use Rattle.model.specs.Promises.Release.{released-idle}
-use Rattle.model.specs.Promises.Progress.{quiet-released}
 use Rattle.promises.specs.View.{view}
 use Rattle.promises.specs.Demand3.{Session, comesTo, Release, Demand3}
 use Rattle.promises.proofs.Tests.{one-of}
 use Rattle.promises.proofs.Seen.{Seen}
-use Rattle.promises.proofs.Rows.{read-tasks-made, read-finishes-made, read-task-finish, read-task-status, read-parent, read-finish-status}
-use Rattle.promises.proofs.Quiet.{count-none, quiet-state}
-use Rattle.promises.proofs.Held.{Held, task-fits, finish-fits, task-number, finish-number, tasks-most}
+use Rattle.promises.proofs.Rows.{read-tasks-made, read-task-finish, read-task-status, read-parent, read-finish-status}
+use Rattle.promises.proofs.Quiet.{count-none}
+use Rattle.promises.proofs.Held.{Held, task-fits, finish-fits, task-number, finish-number}
 use Rattle.promises.proofs.Good.{Good}
 use Rattle.promises.proofs.SoundTables.{good-held}
 use Rattle.promises.proofs.QuietCells.{quiet-cell}
+use Rattle.promises.proofs.ActsTaken.{rest-released}
 use Rattle.promises.proofs.Never.{good-never}
 use Rattle.promises.proofs.Session.{begun-good, all-follow, played-later, no-begin-first, no-begin-later}
 
@@ -68,26 +68,18 @@ module _ {t : List ℕ} (good : Good t) where
       (λ q. let v = eqb-true (taskStatus t k) 6 q in released-idle (view t) (good .inv) f (view t .tasks .finish k) k e under refl (omega arith) (omega arith)))) (λ b. b)
 
   -- ---- progress
-  none-running : runningTasks t ≡ 0 → (k : ℕ) → view t .tasks .status k ≡ 5 → ⊥
+  none-running : runningTasks t ≡ 0 → (k : ℕ) → taskMade t k ≡ true → taskStatus t k ≡ 5 → ⊥
   unfolding runningTasks isRunning
-  none-running z k e =
-      let m = good .inv .status-made k (omega arith) in
-      let c = count-none isRunning 8 (tasksMade t) 1 (drop (place (taskRow 1) 0) t) z (k - 1) (omega (arith, read-tasks-made s)) in
+  none-running z k made e =
+      let n = task-number h k made in
+      let c = count-none isRunning 8 (tasksMade t) 1 (drop (place (taskRow 1) 0) t) z (k - 1) (omega (arith, n .0, n .1, read-tasks-made s)) in
       let g = getD-drop (8 + 8 * (k - 1)) t 3 0 in
-      let at : 8 + 8 * (k - 1) + 3 ≡ place (taskRow k) 3 = omega arith in
+      let at : 8 + 8 * (k - 1) + 3 ≡ place (taskRow k) 3 = omega (arith, n .0) in
       let is : byte (drop (8 * (k - 1)) (drop 8 t)) 3 ≡ taskStatus t k = ap (λ (m : List ℕ). byte m 3) (drop-drop (8 * (k - 1)) 8 t) ∙ g ∙ ap (byte t) at in
-      eqb-false (byte (drop (8 * (k - 1)) (drop 8 t)) 3) 5 c (is ∙ read-task-status s k (m .0) (omega (arith, m .1, tasks-most h)) ∙ e)
-
-  all-released : quiet t ≡ true → runningTasks t ≡ 0 → isReleased t 1 ≡ true
-  unfolding isReleased finishMade
-  all-released calm z =
-      each-every _ (
-        each-every _ (refl, (le-leb 1 (finishesMade t) (omega (arith, read-finishes-made s, good .inv .root .0)), tt)),
-        (eq-eqb (finishStatus t 1) 4 (read-finish-status s 1 (omega arith) (omega arith) ∙ quiet-released (view t) (good .inv) (quiet-state h calm) (none-running z)), tt),
-      )
+      eqb-false (byte (drop (8 * (k - 1)) (drop 8 t)) 3) 5 c (is ∙ e)
 
 -- ---- the tables that a session comes to
-session-good : {t b : List ℕ} {rs : List (List ℕ)} → Session t b rs → Good (comesTo t b rs)
+pub session-good : {t b : List ℕ} {rs : List (List ℕ)} → Session t b rs → Good (comesTo t b rs)
 unfolding comesTo
 session-good {t} {b} {rs} s = all-follow (begun-good t b (s .begun)) rs (s .alone) .good
 
@@ -103,6 +95,6 @@ pub demand3 : Demand3
 demand3 = record {
   release = release-holds;
   quiet-books = λ t b rs s calm f i j opened receives i8. quiet-cell (session-good s) f i j opened receives calm i8;
-  progress = λ t b rs s calm z. all-released (session-good s) calm z;
+  progress = λ t b rs s calm z. let good = session-good s in rest-released good calm (none-running good z);
   never-unsound = λ t b rs s r. good-never (comesTo t b rs) r (session-good s);
 }

@@ -49,6 +49,11 @@ mod Wanted
 pub mod Never
 mod Places
 pub mod Session
+pub mod ActsMove
+pub mod ActsTaken
 mod QuietCells
 pub mod Demand3Holds
+mod StirsNoise
+mod StirsBooks
+pub mod Stirs
 pub mod SentTag

@@ -18,27 +18,28 @@ at-most false n x h rest = rest refl
 passed : (c : Bool) (n x : ℕ) → c ≡ false → x ≤ 7 → cond c n x ≤ 7
 passed c n x e h = rw e h
 
-module _ (t r : List ℕ) (good : Good t) where
-  ranges : (x : Action) → unsound t x ≡ false
-  unfolding unsound
-  ranges unknown = refl
-  ranges (spawn k p) = ap not (good-held t good .sound)
-  ranges (openFinish k) = ap not (good-held t good .sound)
-  ranges (end k) = ap not (good-held t good .sound)
-  ranges (deliver k) = ap not (good-held t good .sound)
-  ranges (kill p) = ap not (good-held t good .sound)
-  ranges (adopt f) = ap not (good-held t good .sound)
-  ranges (cancel f v) = ap not (good-held t good .sound)
-  ranges (ask f v j) = ap not (good-held t good .sound)
-  ranges (begin n) = refl
+-- 8 does not apply
+pub good-ranges : (t : List ℕ) → Good t → (x : Action) → unsound t x ≡ false
+unfolding unsound
+good-ranges t good unknown = refl
+good-ranges t good (spawn k p) = ap not (good-held t good .sound)
+good-ranges t good (openFinish k) = ap not (good-held t good .sound)
+good-ranges t good (end k) = ap not (good-held t good .sound)
+good-ranges t good (deliver k) = ap not (good-held t good .sound)
+good-ranges t good (kill p) = ap not (good-held t good .sound)
+good-ranges t good (adopt f) = ap not (good-held t good .sound)
+good-ranges t good (cancel f v) = ap not (good-held t good .sound)
+good-ranges t good (ask f v j) = ap not (good-held t good .sound)
+good-ranges t good (begin n) = refl
 
+module _ (t r : List ℕ) (good : Good t) where
   answer-most : answer t r ≤ 7
   unfolding answer refusals stepRefusals firstOf
   answer-most =
       let x = actionOf r in
       at-most (wrongLength t r) 7 _ (omega arith) (λ _.
       at-most (noAction x) 1 _ (omega arith) (λ _.
-      passed (unsound t x) 8 _ (ranges x) (
+      passed (unsound t x) 8 _ (good-ranges t good x) (
       at-most (notThere t x) 2 _ (omega arith) (λ a.
       at-most (wrongPlace t x) 3 _ (omega arith) (λ _.
       at-most (notReady t x) 4 _ (omega arith) (λ b.

@@ -76,7 +76,7 @@ module _ {t : List ℕ} (good : Good t) (r : List ℕ) (other : takesBegin t r �
         released = λ f q. rw (m .1 .is) (released-stays f (good .inv) (m .2) q);
       }
 
-  follows : Follows t (after t r)
+  pub follows : Follows t (after t r)
   unfolding after
   follows = bool-cases (eqb (answer t r) 0) (λ e. rw e (moves-on e)) (λ e. rw e (record { good = good; released = λ f q. q }))
 

@@ -1,8 +1,8 @@
 -- Slots: a message as the model has it; what a slot reads, what a send does, and the lowest empty slot.
 use mathlib.Core.Path.{_≡_, refl, sym, ap, _∙_, fun-ext}
-use mathlib.Core.Bool.{true, false}
+use mathlib.Core.Bool.{Bool, true, false}
 use mathlib.Core.List.{List, [], _∷_}
-use Prim.Native.Nat.{ℕ, _+_, _*_, _<_}
+use Prim.Native.Nat.{ℕ, suc, _+_, _*_, _<_}
 use native.Mathlib.Omega.{arith}
 use lib.Dec.{eqb, ltb}
 use lib.ListN.{length, drop, length-drop, List·getD-eq-default}
@@ -12,6 +12,7 @@ use Rattle.tables.specs.Bytes.{byte, part}
 use Rattle.tables.specs.Layout.{place, slotRow}
 use Rattle.tables.proofs.Writes.{byte-part, length-part}
 use Rattle.tables.proofs.Walks.{first-range, first-at}
+use Rattle.tables.specs.Walks.{firstPart}
 use Rattle.rules.specs.Messages.{Message, none, publish, published, transit, granted, denied, task, report, release, ghostEnded, countDropped, dropped, message, noCounts, bytesOf, tagged, messageIn, slotPlace, fromSlot, messageAt, send, isEmpty, lowestEmpty, slotsFull}
 use Rattle.model.specs.Base.Cases.{bool-cases}
 use Rattle.model.specs.Base.Updates.{upd}
@@ -195,3 +196,14 @@ module _ {t : List ℕ} {a : State} (s : Seen t a) (room : slotsFull t ≡ false
             ap (λ (y : State). y .slot k .tag) (sym (s .is)) ∙ cell-in slotTable t k 0 (omega arith) (omega arith) lowest-range
             ∙ sym (getD-drop (13056 + 16 * k) t 0 0 ∙ ap (byte t) p) ∙ eqb-true (byte (drop (13056 + 16 * k) t) 0) 0 lowest-empty;
       }
+
+-- where none is empty the first is full
+first-here : (p : List ℕ → ℕ → Bool) (w i n : ℕ) (m : List ℕ) → p m i ≡ true → firstPart p w i (suc n) m ≡ i
+unfolding firstPart
+first-here p w i n m e = rw e refl
+
+pub first-full : {t : List ℕ} {a : State} → Seen t a → slotsFull t ≡ true → a .slot 0 .tag ≡ 0 → ⊥
+unfolding slotsFull lowestEmpty fromSlot
+first-full {t} s e z =
+    let empty : isEmpty (fromSlot t 0) 0 ≡ true = read-empty s 0 (omega arith) ∙ rw z refl in
+    omega (arith, eqb-true (lowestEmpty t) 128 e, first-here isEmpty 16 0 127 (drop (slotPlace 0) t) empty)

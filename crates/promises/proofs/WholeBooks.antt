@@ -44,7 +44,7 @@ pub record IsBook (b : List ℕ) (a : State) (f : ℕ) : Type 0 where
   pub asked : askedIn b ≡ a .books .asked f
 
 module _ (t : List ℕ) (whole : Whole t) (f : ℕ) (f0 : 0 < f) (f33 : f < 33) where
-  at : (j p : ℕ) → j < 144 → bookPlace f + j ≡ p → byte (bookOf t f) j ≡ byte t p
+  pub at : (j p : ℕ) → j < 144 → bookPlace f + j ≡ p → byte (bookOf t f) j ≡ byte t p
   unfolding bookOf
   at j p h e = byte-part t (bookPlace f) 144 j h ∙ ap (byte t) e
 

@@ -1,3 +1,4 @@
 pub mod View
 pub mod Demand3
+pub mod Settling
 pub mod SentTag

@@ -49,7 +49,7 @@ module _ (s : State) (f v : ℕ) (inv : Inv s) (died : s .dead v ≡ true) (sett
   counted-denied : C.CountedDenied s′
   counted-denied x i j p a d = omega (arith, inv .counted-denied x i j p a d, live-other x i j (λ _ q. both died (ap (s .dead) q ∙ a)))
 
-  cleared : InvBut f (cancel s f v)
+  pub cleared : InvBut f (cancel s f v)
   cleared = search (cell-places, fresh-book, book-counts, due-column, counted, counted-denied)
 
   pub cancels-keeps : {k : ℕ} {t : State} → s .books .present f ≡ 1 → Closing (cancel s f v) f k t → Inv t
