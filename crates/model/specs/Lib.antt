@@ -15,3 +15,4 @@ pub mod Reached
 pub mod Work
 pub mod Kept
 pub mod Adds
+pub mod Falls

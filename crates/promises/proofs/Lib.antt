@@ -56,4 +56,5 @@ pub mod Demand3Holds
 mod StirsNoise
 mod StirsBooks
 pub mod Stirs
+pub mod Falls
 pub mod SentTag

@@ -6,15 +6,14 @@ use native.Mathlib.Omega.{arith}
 use lib.Dec.{eqb}
 use borrow.Author.Tests.{eq-eqb, ne-eqb}
 use Rattle.model.specs.Base.{sum-strict, upd, upd-same, upd-other, upd-below, upd-cases, on, on-true, on-false, on-le, sum, sum-suc, sum-mono, sum-most, eq-cases}
-use Rattle.model.specs.State.{State, Message, Locals, withTaskStatus, withFinishStatus, withLocals, withSlot}
+use Rattle.model.specs.State.{State, Message, withFinishStatus, withSlot}
 use Rattle.model.specs.Guards.{Runs, MayRun}
 use Rattle.model.specs.Effects.Spawn.{withSpawned}
-use Rattle.model.specs.Effects.End.{wake, wake-none, wake-some}
 use Rattle.model.specs.Effects.Kill.{losesTask, kill}
 use Rattle.model.specs.Step.{Spawn, spawns-first, spawns-later, End, ends-unpublished, ends-published, ends-other, ends-last, Kill, kills}
 use Rattle.model.specs.Inv.{Inv}
 use Rattle.model.specs.Work.{endedTasks}
-use Rattle.model.specs.Kept.{Kept}
+use Rattle.model.specs.Kept.{Kept, keeps, woken}
 
 -- what a task of status v counts for
 ended-is : (v : ℕ) → v ≡ 7 → on (eqb v 7) 1 ≡ 1
@@ -52,11 +51,6 @@ ended-most {s} inv =
 stays : (status : ℕ → ℕ) (t x : ℕ) → status x ≡ 7 → upd status t 7 x ≡ 7
 stays status t x e = upd-cases status (λ w. w ≡ 7) t 7 x (λ _. refl) (λ _. e)
 
-woken : (o : ℕ) (status : ℕ → ℕ) (x : ℕ) → (0 < o → status o ≡ 7 → ⊥) → status x ≡ 7 → wake o status x ≡ 7
-woken o status x blocked e = eq-cases o 0
-    (λ q. rw (wake-none o status x q) e)
-    (λ n. rw (wake-some o status x (omega arith)) (upd-cases status (λ w. w ≡ 7) o 5 x (λ q. absurd (blocked (omega arith) (rw q at e))) (λ _. e)))
-
 -- the opener of its finish is another task
 opener-blocked : (s : State) (t o : ℕ) → Runs s t → MayRun s o → 0 < o → upd (s .tasks .status) t 7 o ≡ 7 → ⊥
 opener-blocked s t o runs may z e = omega (
@@ -79,18 +73,13 @@ end-now {s} {t = t} (ends-published k a b c d e) = upd-same (s .tasks .status) t
 end-now {s} {t = t} (ends-other a b c) = upd-same (s .tasks .status) t 7
 end-now {s} {t = t} (ends-last k a b c d e) = upd-same (s .tasks .status) t 7
 
--- of the tasks, statuses alone are written
-written : (s : State) (status finish-status : ℕ → ℕ) (locals : Locals) (slot : ℕ → Message) → ((x : ℕ) → s .tasks .status x ≡ 7 → status x ≡ 7)
-    → Kept s (withSlot slot (withLocals locals (withFinishStatus finish-status (withTaskStatus status s))))
-written s status finish-status locals slot h = record { places = refl; dead = λ _. refl; made = refl; maker = λ _. refl; finishes = refl; ended = h }
-
 pub end-kept : {s s′ : State} {t : ℕ} → End s t s′ → Kept s s′
 end-kept {s} {t = t} (ends-unpublished a b c d e) =
     let o = s .finishes .opener (s .tasks .finish t) in
-    written s _ _ _ _ (λ x h. woken o (upd (s .tasks .status) t 7) x (opener-blocked s t o a e) (stays (s .tasks .status) t x h))
-end-kept {s} {t = t} (ends-published k a b c d e) = written s _ _ _ _ (stays (s .tasks .status) t)
-end-kept {s} {t = t} (ends-other a b c) = written s _ _ _ _ (stays (s .tasks .status) t)
-end-kept {s} {t = t} (ends-last k a b c d e) = written s _ _ _ _ (stays (s .tasks .status) t)
+    keeps s _ _ _ _ _ refl (λ x h. woken o (upd (s .tasks .status) t 7) x (opener-blocked s t o a e) (stays (s .tasks .status) t x h))
+end-kept {s} {t = t} (ends-published k a b c d e) = keeps s _ _ _ _ _ refl (stays (s .tasks .status) t)
+end-kept {s} {t = t} (ends-other a b c) = keeps s _ _ _ _ _ refl (stays (s .tasks .status) t)
+end-kept {s} {t = t} (ends-last k a b c d e) = keeps s _ _ _ _ _ refl (stays (s .tasks .status) t)
 
 pub end-ended : {s s′ : State} {t : ℕ} → End s t s′ → endedTasks s < endedTasks s′
 unfolding endedTasks

@@ -92,10 +92,14 @@ sum-but (suc n) c φ ψ k one h = eq-cases k n
     (λ e. omega (arith, rw e at one, sum-mono n ψ φ (λ x l. h x (omega arith) (λ q. omega arith))))
     (λ ne. omega (arith, h n (omega arith) (λ q. ne (sym q)), sum-but n c φ ψ k one (λ x l. h x (omega arith))))
 
+-- none rises, and the term of k falls by c
+pub sum-falls : (n c : ℕ) (φ ψ : ℕ → ℕ) (k : ℕ) → k < n → ψ k + c ≤ φ k → ((x : ℕ) → x < n → (x ≡ k → ⊥) → ψ x ≤ φ x) → sum n ψ + c ≤ sum n φ
+unfolding sum
+sum-falls zero c φ ψ k l one h = absurd (omega arith)
+sum-falls (suc n) c φ ψ k l one h = eq-cases k n
+    (λ e. omega (arith, rw e at one, sum-mono n ψ φ (λ x m. h x (omega arith) (λ q. omega arith))))
+    (λ ne. omega (arith, h n (omega arith) (λ q. ne (sym q)), sum-falls n c φ ψ k (omega arith) one (λ x m. h x (omega arith))))
+
 -- none falls, and the term of k rises
 pub sum-strict : (n : ℕ) (φ ψ : ℕ → ℕ) (k : ℕ) → k < n → φ k < ψ k → ((x : ℕ) → x < n → φ x ≤ ψ x) → sum n φ < sum n ψ
-unfolding sum
-sum-strict zero φ ψ k l one h = absurd (omega arith)
-sum-strict (suc n) φ ψ k l one h = eq-cases k n
-    (λ e. omega (arith, rw e at one, sum-mono n φ ψ (λ x m. h x (omega arith))))
-    (λ ne. omega (arith, h n (omega arith), sum-strict n φ ψ k (omega arith) one (λ x m. h x (omega arith))))
+sum-strict n φ ψ k l one h = omega (arith, sum-falls n 1 ψ φ k l (omega arith) (λ x m _. h x m))

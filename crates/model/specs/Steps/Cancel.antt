@@ -18,7 +18,7 @@ module _ (s : State) (f v : ℕ) (inv : Inv s) (died : s .dead v ≡ true) (sett
   abbrev s′ : State
   s′ = cancel s f v
 
-  fewer : (x i j : ℕ) → s′ .books .live x i j ≤ s .books .live x i j
+  pub fewer : (x i j : ℕ) → s′ .books .live x i j ≤ s .books .live x i j
   fewer x i j = cond-cases (λ w. w ≤ s .books .live x i j) (is₂ f v x j) 0 (s .books .live x i j) (λ _. omega arith) (λ _. omega arith)
 
   live-other : (x i j : ℕ) → (f ≡ x → v ≡ j → ⊥) → s′ .books .live x i j ≡ s .books .live x i j

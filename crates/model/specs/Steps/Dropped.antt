@@ -81,7 +81,7 @@ module _ (s : State) (k : ℕ) (inv : Inv s) (full : Full s k 11) (lives : s .de
   counted-denied : C.CountedDenied s′
   counted-denied f i j p a d = omega (arith, inv .counted-denied f i j p a d, answered-falls f i j, enough f i j, W.reports-same s₁ k none (full .range) f i j (other-tag 7 (omega arith) (λ q. omega arith)))
 
-  lowered : InvBut f₀ (deliverDropped s k)
+  pub lowered : InvBut f₀ (deliverDropped s k)
   lowered = search (
     fresh-book,
     book-counts,

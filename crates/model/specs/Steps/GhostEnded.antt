@@ -62,7 +62,7 @@ module _ (s : State) (k : ℕ) (inv : Inv s) (full : Full s k 9) where
       go (inl c) = inl c
       go (inr c) = inr (c .0, rw (is₂-false q₀ (s .slot k .number) f (c .0) (λ q _. n (sym q))) (c .1))
 
-  removed : InvBut q₀ (deliverGhostEnded s k)
+  pub removed : InvBut q₀ (deliverGhostEnded s k)
   removed = search (
     ghosts,
     ghost-made,

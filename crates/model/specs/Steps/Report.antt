@@ -80,7 +80,7 @@ module _ (s : State) (k : ℕ) (inv : Inv s) (full : Full s k 7) (repaired : Rep
   counted-denied : C.CountedDenied s′
   counted-denied f i j p a d = omega (arith, inv .counted-denied f i j p a d, reports-fall f i j, enough f i j, W.answered-same s₁ k none (full .range) f i j (other-tag 11 (omega arith) (λ q. omega arith)))
 
-  lowered : InvBut f₀ (deliverReport s k)
+  pub lowered : InvBut f₀ (deliverReport s k)
   lowered = search (
     fresh-book,
     book-counts,
