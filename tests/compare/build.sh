@@ -6,6 +6,7 @@
 #   build.sh comparer OBJECT          the comparer and the second program, all but the core
 #   build.sh link OBJECT CORE PROGRAM the comparer, with the core's library or what stands in for it
 #   build.sh stand-in DIR OBJECT      the second program in DIR under the core's names, to try the comparer itself
+#   build.sh tree DIR PROGRAM         the driver that grows trees, over the second program in DIR
 #
 # SANITIZE=1 builds what is compiled here with the address and undefined-behaviour sanitizers.
 set -euo pipefail
@@ -53,8 +54,12 @@ stand-in)
     # shellcheck disable=SC2046
     "$cc" "${flags[@]}" -r $(core_names "$2") "$2"/*.c -o "$3"
     ;;
+tree)
+    mkdir -p "$(dirname "$3")"
+    "$cc" "${flags[@]}" "$2"/tree/*.c "$2"/*.c -o "$3"
+    ;;
 *)
-    sed -n '2,11p' "$0" >&2
+    sed -n '2,12p' "$0" >&2
     exit 2
     ;;
 esac

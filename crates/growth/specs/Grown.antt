@@ -8,7 +8,8 @@ use borrow.Author.Tests.{eq-eqb, ne-eqb}
 use Rattle.model.specs.Base.Cases.{eq-cases}
 use Rattle.model.specs.Base.Updates.{upd, upd-cases, on-true, on-false}
 use Rattle.model.specs.Base.Sums.{sum, sum-suc, sum-ext, sum-ge, sum-zero, sum-upd}
-use Rattle.growth.specs.Tree.{levelOf, treeSize, childrenOf, howMany-none, tree-suc, level-top, level-child, level-same, children-same, children-more}
+use Rattle.plan.specs.Tree.{treeSize, levelOf, childrenOf}
+use Rattle.growth.specs.Tree.{children-none, tree-suc, level-top, level-child, level-same, children-same, children-more}
 
 -- tasks to come below a task of the level with so many children: a whole tree for each child that it lacks
 abbrev pub toCome : ℕ → ℕ → ℕ → ℕ → ℕ
@@ -52,7 +53,7 @@ grown-first L w maker l e = record {
     top = level-top maker L 1 e
 
     none : childrenOf maker 1 1 ≡ 0
-    none = howMany-none (λ x. eqb (maker x) 1) 1 (λ x z m. rw (one x z m, e) refl)
+    none = children-none maker 1 1 (λ x z m q. omega (arith, q, ap maker (one x z m), e))
 
     first : below L w maker 1 0 ≡ w * treeSize w (L - 1)
     first = rw (top, none) (none-yet L w 1)
@@ -69,9 +70,9 @@ grown-room grown zero z l d c = absurd (omega arith)
 grown-room {L} {w} {maker} {made} grown (suc j) z l d c =
     omega (arith, grown .size, sum-ge made (below L w maker made) j (omega arith), one-less L w (levelOf maker L (suc j)) (childrenOf maker made (suc j)) d c)
 
-pub grown-same : {L w : ℕ} {maker maker′ : ℕ → ℕ} {made : ℕ} → Grown L w maker made → ((x : ℕ) → x ≤ made → maker′ x ≡ maker x) → Grown L w maker′ made
+pub grown-same : {L w : ℕ} {maker maker′ : ℕ → ℕ} {made : ℕ} → Grown L w maker made → ((x : ℕ) → 0 < x → x ≤ made → maker′ x ≡ maker x) → Grown L w maker′ made
 grown-same {L} {w} {maker} {maker′} {made} grown agree = record {
-  makers = λ x z l. rw (agree x l) (grown .makers x z l);
+  makers = λ x z l. rw (agree x z l) (grown .makers x z l);
   depth = λ x z l. rw (level x z l) (grown .depth x z l);
   width = λ x z l. rw (children x) (grown .width x z l);
   size = omega (arith, grown .size, sum-ext made (below L w maker made) (below L w maker′ made) (λ x l. rw (level (suc x) (omega arith) (omega arith), children (suc x))));
@@ -81,12 +82,12 @@ grown-same {L} {w} {maker} {maker′} {made} grown agree = record {
     level = level-same maker maker′ made agree (grown .makers) L
 
     children : (x : ℕ) → childrenOf maker′ made x ≡ childrenOf maker made x
-    children = children-same maker maker′ made agree
+    children x = children-same maker maker′ made agree made x (omega arith)
 
 -- task k, above the last level and with fewer children than w, has spawned one more
 module _ {L w : ℕ} {maker : ℕ → ℕ} {made : ℕ} (grown : Grown L w maker made) (k : ℕ) (z : 0 < k) (l : k ≤ made)
     (above : levelOf maker L k < L) (fewer : childrenOf maker made k < w)
-    (maker′ : ℕ → ℕ) (new : maker′ (suc made) ≡ k) (agree : (x : ℕ) → x ≤ made → maker′ x ≡ maker x) where
+    (maker′ : ℕ → ℕ) (new : maker′ (suc made) ≡ k) (agree : (x : ℕ) → 0 < x → x ≤ made → maker′ x ≡ maker x) where
   level-old : (x : ℕ) → 0 < x → x ≤ made → levelOf maker′ L x ≡ levelOf maker L x
   level-old = level-same maker maker′ made agree (grown .makers) L
 
@@ -103,7 +104,7 @@ module _ {L w : ℕ} {maker : ℕ → ℕ} {made : ℕ} (grown : Grown L w maker
 
   children-new : childrenOf maker′ (suc made) (suc made) ≡ 0
   children-new = children-old (suc made) (λ e. omega arith)
-      ∙ howMany-none (λ x. eqb (maker x) (suc made)) made (λ x p m. ne-eqb (maker x) (suc made) (λ e. omega (arith, grown .makers x p m)))
+      ∙ children-none maker made (suc made) (λ x p m e. omega (arith, grown .makers x p m))
 
   -- k's children are one more
   raised : (j : ℕ) → k ≡ suc j → (x : ℕ) → childrenOf maker′ (suc made) (suc x) ≡ upd (λ y. childrenOf maker made (suc y)) j (suc (childrenOf maker made k)) x
@@ -128,7 +129,7 @@ module _ {L w : ℕ} {maker : ℕ → ℕ} {made : ℕ} (grown : Grown L w maker
   grown-more = record {
     makers = λ x p m. eq-cases x (suc made)
         (λ e. rw (e, new) (omega arith))
-        (λ ne. rw (agree x (omega arith)) (grown .makers x p (omega arith)));
+        (λ ne. rw (agree x p (omega arith)) (grown .makers x p (omega arith)));
     depth = λ x p m. eq-cases x (suc made)
         (λ e. rw (e, level-new) (omega arith))
         (λ ne. rw (level-old x p (omega arith)) (grown .depth x p (omega arith)));

@@ -1,17 +1,17 @@
 -- A slot reached from slot 0 or from the tables' start, two rows written as one message, and what a slot found tells.
 use mathlib.Core.Path.{_≡_, refl, sym, ap, _∙_}
 use mathlib.Core.Bool.{Bool, true, false, cond}
-use mathlib.Core.List.{List, [], _∷_, _++_}
-use Prim.Native.Nat.{ℕ, suc, _+_, _*_, _<_}
+use mathlib.Core.List.{List, [], _∷_}
+use Prim.Native.Nat.{ℕ, _+_, _*_, _<_}
 use native.Mathlib.Nat.{add-zero}
 use native.Mathlib.Omega.{arith}
 use borrow.Author.Tests.{eq-eqb, ne-eqb, eqb-false}
 use lib.Dec.{eqb}
-use lib.ListN.{length, drop, take, set}
-use lib.Seq.{drop-drop, getD-drop, sets}
+use lib.ListN.{drop, take}
+use lib.Seq.{drop-drop, getD-drop}
 use Rattle.tables.specs.Bytes.{byte, part, write}
 use Rattle.tables.specs.Layout.{slotRow}
-use Rattle.tables.proofs.Writes.{write-sets}
+use Rattle.tables.proofs.Writes.{write-after}
 use Rattle.tables.proofs.Walks.{first-range}
 use Rattle.rules.specs.Messages.{message, bytesOf, report, slotPlace, fromSlot, send, isEmpty, lowestEmpty, slotsFull}
 use Rattle.messages.specs.declared.Found.{Found}
@@ -27,20 +27,6 @@ byte-from-slot t s column = ap (λ (m : List ℕ). byte m column) (from-slot t s
 pub part-from-slot : (t : List ℕ) (s k n : ℕ) → part (fromSlot t s) k n ≡ part t (slotPlace s + k) n
 unfolding part
 part-from-slot t s k n = ap (λ (m : List ℕ). take n (drop k m)) (from-slot t s) ∙ ap (take n) (drop-drop k (slotPlace s) t)
-
--- ---- bytes written after bytes written
-sets-after : (vs t : List ℕ) (k : ℕ) (us : List ℕ) → sets (sets t k vs) (k + length vs) us ≡ sets t k (vs ++ us)
-sets-after [] t k us = ap (λ (n : ℕ). sets t n us) (add-zero k)
-sets-after (v ∷ vs) t k us =
-    let e : k + suc (length vs) ≡ suc k + length vs = omega arith in
-    ap (λ (n : ℕ). sets (sets (set t k v) (suc k) vs) n us) e ∙ sets-after vs (set t k v) (suc k) us
-
-write-after : (vs t : List ℕ) (k : ℕ) (us : List ℕ) → write (write t k vs) (k + length vs) us ≡ write t k (vs ++ us)
-write-after vs t k us =
-    write-sets us (write t k vs) (k + length vs)
-    ∙ ap (λ (u : List ℕ). sets u (k + length vs) us) (write-sets vs t k)
-    ∙ sets-after vs t k us
-    ∙ sym (write-sets (vs ++ us) t k)
 
 -- the two rows of a report
 pub report-put : (t u x : List ℕ) (at s f v : ℕ) (counts : List ℕ) → at ≡ 8 * slotRow s → u ≡ write t at (7 ∷ f ∷ 0 ∷ v ∷ 0 ∷ 0 ∷ 0 ∷ 0 ∷ []) → x ≡ write u (at + 8) counts

@@ -3,7 +3,7 @@ use mathlib.Core.Path.{_≡_, refl, sym, ap, _∙_}
 use mathlib.Core.Logic.{_⊎_, inl, inr}
 use mathlib.Core.List.{List, [], _∷_, _++_, append-nil, append-assoc}
 use Prim.Native.Nat.{ℕ, zero, suc, _+_, _-_, _≤_, _<_}
-use native.Mathlib.Nat.{zero-add, suc-add}
+use native.Mathlib.Nat.{add-zero, zero-add, suc-add}
 use native.Mathlib.Numerals.{add-one}
 use native.Mathlib.Omega.{arith}
 use borrow.Author.Fill.{fill-more}
@@ -36,6 +36,24 @@ write-sets (v ∷ vs) t k = write-first t k v vs ∙ write-sets vs (set t k v) (
 
 pub length-write : (vs t : List ℕ) (k : ℕ) → length (write t k vs) ≡ length t
 length-write vs t k = ap length (write-sets vs t k) ∙ length-sets t k vs
+
+-- a store is one byte written
+pub write-one : (t : List ℕ) (k v : ℕ) → set t k v ≡ write t k (v ∷ [])
+write-one t k v = sym (write-first t k v [] ∙ write-none (set t k v) (suc k))
+
+-- bytes written after bytes written
+sets-after : (vs t : List ℕ) (k : ℕ) (us : List ℕ) → sets (sets t k vs) (k + length vs) us ≡ sets t k (vs ++ us)
+sets-after [] t k us = ap (λ (n : ℕ). sets t n us) (add-zero k)
+sets-after (v ∷ vs) t k us =
+    let e : k + suc (length vs) ≡ suc k + length vs = omega arith in
+    ap (λ (n : ℕ). sets (sets (set t k v) (suc k) vs) n us) e ∙ sets-after vs (set t k v) (suc k) us
+
+pub write-after : (vs t : List ℕ) (k : ℕ) (us : List ℕ) → write (write t k vs) (k + length vs) us ≡ write t k (vs ++ us)
+write-after vs t k us =
+    write-sets us (write t k vs) (k + length vs)
+    ∙ ap (λ (u : List ℕ). sets u (k + length vs) us) (write-sets vs t k)
+    ∙ sets-after vs t k us
+    ∙ sym (write-sets (vs ++ us) t k)
 
 -- what stands before the bytes, the bytes, what stands after them
 pub write-mid : (vs t : List ℕ) (k : ℕ) → k + length vs ≤ length t → write t k vs ≡ take k t ++ vs ++ drop (k + length vs) t

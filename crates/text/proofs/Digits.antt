@@ -2,27 +2,17 @@
 use mathlib.Core.Path.{_≡_, refl, sym, ap, _∙_}
 use mathlib.Core.List.{List, [], _∷_, _++_}
 use Prim.Native.Nat.{ℕ, zero, suc, _+_, _-_, _/_, _%_, _^_, _≤_, _<_}
-use native.Mathlib.Nat.{add-zero, zero-add, suc-add, pow-succ'}
+use native.Mathlib.Nat.{pow-succ'}
 use native.Mathlib.Omega.{arith}
 use borrow.Author.Tests.{lt-ltb, le-ltb}
 use lib.ListN.{length, set, length-append}
-use Rattle.tables.specs.Bytes.{over, write}
-use Rattle.tables.proofs.Writes.{copy-none}
+use Rattle.tables.specs.Bytes.{write}
+use Rattle.tables.proofs.Writes.{write-one, write-after}
 use Rattle.text.specs.Decimal.{decimal}
 
-over-last : (D t : List ℕ) (x : ℕ) → set (over D t) (length D) x ≡ over (D ++ (x ∷ [])) t
-unfolding over
-over-last [] [] x = refl
-over-last [] (y ∷ t) x = refl
-over-last (v ∷ D) [] x = refl
-over-last (v ∷ D) (y ∷ t) x = ap (λ (r : List ℕ). v ∷ r) (over-last D t x)
-
 -- the bytes written and one stored behind them
-write-last : (t : List ℕ) (k : ℕ) (D : List ℕ) (x : ℕ) → set (write t k D) (k + length D) x ≡ write t k (D ++ (x ∷ []))
-unfolding write
-write-last [] k D x = refl
-write-last (y ∷ t) zero D x = rw (zero-add (length D)) (over-last D (y ∷ t) x)
-write-last (y ∷ t) (suc k) D x = rw (suc-add k (length D)) (ap (λ (r : List ℕ). y ∷ r) (write-last t k D x))
+pub write-last : (t : List ℕ) (k : ℕ) (D : List ℕ) (x : ℕ) → set (write t k D) (k + length D) x ≡ write t k (D ++ (x ∷ []))
+write-last t k D x = write-one (write t k D) (k + length D) x ∙ write-after D t k (x ∷ [])
 
 -- ---- the number's own digits
 one-digit : (room n : ℕ) → 1 ≤ room → n < 10 → decimal room n ≡ (48 + n) ∷ []
@@ -48,10 +38,7 @@ room-falls (suc (suc room)) n h l =
 
 -- ---- one digit stored
 pub put-one : (t : List ℕ) (at n room : ℕ) → 1 ≤ room → n < 10 → set t at (48 + n) ≡ write t at (decimal room n)
-put-one t at n room h l =
-    ap (λ (s : List ℕ). set s at (48 + n)) (copy-none t [] at)
-    ∙ (rw (add-zero at) at (write-last t at [] (48 + n)))
-    ∙ ap (write t at) (sym (one-digit room n h l))
+put-one t at n room h l = write-one t at (48 + n) ∙ ap (write t at) (sym (one-digit room n h l))
 
 pub end-one : (at n room : ℕ) → 1 ≤ room → n < 10 → at + 1 ≡ at + length (decimal room n)
 end-one at n room h l = rw (one-digit room n h l) refl

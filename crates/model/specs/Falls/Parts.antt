@@ -1,11 +1,11 @@
 -- How the parts of a book's work change: its dead columns and its pairs not yet asked.
-use mathlib.Core.Path.{_≡_, refl, sym}
+use mathlib.Core.Path.{_≡_, refl}
 use mathlib.Core.Bool.{Bool, true, false, _&&_, not}
-use Prim.Native.Nat.{ℕ, zero, suc, _+_, _≤_, _<_}
+use Prim.Native.Nat.{ℕ, _≤_, _<_}
 use native.Mathlib.Omega.{arith}
 use lib.Dec.{eqb}
 use borrow.Author.Tests.{ne-eqb}
-use Rattle.model.specs.Base.{sum-falls, on, on-false, on-le, sum, sum-mono, sum-strict, sum-ge, sum-zero, eq-cases, bool-cases, both}
+use Rattle.model.specs.Base.{on, on-false, on-le, sum, sum-mono, sum-strict, sum-ge, sum-zero, eq-cases, bool-cases, both}
 use Rattle.model.specs.Effects.Kill.{emptyColumn}
 use Rattle.model.specs.Work.{unasked, deadColumns}
 

@@ -1,0 +1,5 @@
+pub mod Ranges
+pub mod Spelling
+pub mod Lines
+pub mod Places
+pub mod Trees

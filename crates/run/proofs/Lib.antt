@@ -1,0 +1,10 @@
+pub mod Choices
+pub mod Cover
+pub mod TurnOf
+pub mod Levels
+pub mod Lives
+pub mod Alive
+pub mod AliveFirst
+pub mod AliveTurns
+pub mod Noted
+pub mod Running

@@ -1,0 +1,52 @@
+use Prim.Native.Nat.{_≤_, _-_}
+use mathlib.Core.Path.{_≡_}
+use Rattle.turns.specs.Acts.{spawner}
+use Rattle.plan.specs.Tree.{childrenOf}
+use Rattle.turns.proofs.Acts.{children-none, children-more, children-done}
+use borrow.Author.Needs.{needs}
+use Rattle.turns.proofs.children_of.Statement.{statement}
+use Rattle.turns.proofs.children_of.Tie as tie
+use Rattle.turns.proofs.children_of.Reads as reads
+use Rattle.turns.proofs.children_of.Lts as lts
+use Rattle.turns.proofs.child_one.Reads as child-one-reads
+
+abbrev Inv-loop : tie.InvT-loop
+Inv-loop t k n c₀ j₀ c j = (j ≤ n) × ((c ≤ j) × (c ≡ childrenOf (spawner t) j k))
+
+abbrev μ-loop : tie.MeasureT-loop
+μ-loop t k n c₀ j₀ c j = n - j
+
+loop-holds : tie.Need-loop-holds Inv-loop μ-loop
+loop-holds c = (search needs, (search needs, children-none _ _))
+
+add-j : tie.Need-add-j Inv-loop μ-loop
+add-j c = search needs
+
+child-one-requires : tie.Need-child-one-requires Inv-loop μ-loop
+child-one-requires c κs = search needs
+
+add-c : tie.Need-add-c Inv-loop μ-loop
+add-c c = search needs
+
+loop-less : tie.Need-loop-less Inv-loop μ-loop
+loop-less c = search needs
+
+loop-again : tie.Need-loop-again Inv-loop μ-loop
+loop-again c = (search needs, (search needs, children-more _ _ _ _ _ (c .child-one .ensures .0) (c .before .before .loop .inv .1 .1)))
+
+returns : tie.Need-returns Inv-loop μ-loop
+returns c = children-done _ _ _ _ _ (c .loop-test .left) (c .before .loop .inv .0) (c .before .loop .inv .1 .1)
+
+pub children-of-spec : {M : Type 1} → statement M
+children-of-spec =
+    tie.close
+    (tie.spec
+    Inv-loop
+    μ-loop
+    loop-holds
+    add-j
+    child-one-requires
+    add-c
+    loop-less
+    loop-again
+    returns)
