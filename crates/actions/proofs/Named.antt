@@ -5,7 +5,7 @@ use mathlib.Core.List.{List}
 use Prim.Native.Nat.{ℕ, zero, suc, _<_, _≤_}
 use native.Mathlib.Omega.{arith}
 use borrow.Author.Tests.{ne-eqb, lt-leb}
-use lib.Dec.{eqb, leb}
+use lib.Dec.{eqb}
 use Rattle.rules.specs.Action.{Action, unknown, spawn, openFinish, end, deliver, kill, adopt, cancel, ask, begin, only0, actionNamed}
 use Rattle.rules.specs.Sound.{sound}
 use Rattle.rules.specs.Refusals.{noAction, unsound}

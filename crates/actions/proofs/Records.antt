@@ -1,12 +1,11 @@
 -- What the range test and a step's joiner tell of a record's answer and tables, for every action that the range test guards.
 use mathlib.Core.Path.{_≡_, refl, sym, ap, _∙_}
-use mathlib.Core.Bool.{Bool, true, false, cond, not}
+use mathlib.Core.Bool.{Bool, true, false, cond}
 use mathlib.Core.List.{List}
 use Prim.Native.Nat.{ℕ}
 use lib.Dec.{eqb}
 use borrow.Author.Tests.{eqb-true}
 use Rattle.rules.specs.Action.{Action}
-use Rattle.rules.specs.Sound.{sound}
 use Rattle.rules.specs.Refusals.{noAction, unsound, firstOf, stepAnswer}
 use Rattle.rules.specs.Step.{step, stepAfter}
 use Rattle.answers.specs.declared.Answer.{Answer}

@@ -6,13 +6,13 @@ use Prim.Native.Nat.{ℕ, _+_, _-_, _*_, _/_, _%_, _≤_, _<_}
 use native.Mathlib.Omega.{arith}
 use lib.Dec.{ltb, leb}
 use lib.ListN.{set, length}
-use borrow.Author.Tests.{eq-eqb, ne-eqb, ltb-true, leb-true, le-leb, lt-ltb}
+use borrow.Author.Tests.{eqb-false, eq-eqb, ne-eqb, ltb-true, leb-true, le-leb, lt-ltb}
 use Rattle.tables.specs.Bytes.{byte, write}
 use Rattle.tables.specs.Bits.{marked, withMark, withoutMark}
 use Rattle.tables.specs.Layout.{Whole, place, bookRow}
 use Rattle.tables.proofs.Bits.{with-mark, without-mark}
 use Rattle.rules.specs.Fields.{present, bookParent, adoptDue, isAdopted, ghostByte, livePlace, sentPlace, askedPlace, live, sentCount, askedMarks}
-use Rattle.rules.specs.Deliver.{withoutGhost}
+use Rattle.rules.specs.Deliver.{bookAbsent, withoutGhost}
 use Rattle.model.specs.Base.Cases.{eq-cases, bool-cases, and-left, and-right, both}
 use Rattle.model.specs.Base.Updates.{upd, upd-same, upd-other, is₂, is₃, is₂-cases, is₂-same, is₃-same, is₃-false}
 use Rattle.model.specs.State.{State, withBooks, withDue, withGhosts, withLive, withSent, withAsked}
@@ -28,6 +28,11 @@ module _ {t : List ℕ} {a : State} (s : Seen t a) (f : ℕ) (f0 : 0 < f) (f33 :
   pub read-present : present t f ≡ a .books .present f
   unfolding view
   read-present = read-cell s bookTable f 0 (λ x. x .books .present f) (omega arith) (f0, f33) refl
+
+  -- a mark that is not 0 is 1: the book is there
+  pub book-there : a .books .present f ≤ 1 → bookAbsent t f ≡ false → a .books .present f ≡ 1
+  unfolding bookAbsent
+  book-there mark e = let n = eqb-false (present t f) 0 e in omega (arith, read-present)
 
   pub read-book-parent : bookParent t f ≡ a .books .parent f
   unfolding view

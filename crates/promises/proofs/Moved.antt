@@ -5,16 +5,15 @@ use mathlib.Core.List.{List}
 use Prim.Native.Nat.{ℕ, _<_}
 use native.Mathlib.Omega.{arith}
 use lib.Dec.{eqb}
-use borrow.Author.Tests.{eqb-true, eqb-false, ne-eqb}
+use borrow.Author.Tests.{eqb-true, ne-eqb}
 use Rattle.rules.specs.Fields.{taskStatus, taskMade, finishMade, mayRun}
 use Rattle.rules.specs.Deliver.{bookAbsent}
 use Rattle.rules.proofs.Taken.{not-not}
 use Rattle.model.specs.State.{State}
 use Rattle.model.specs.Guards.{Runs, HasBook, MayRun}
-use Rattle.promises.proofs.Tests.{mark-set}
 use Rattle.promises.proofs.Seen.{Seen}
 use Rattle.promises.proofs.Rows.{read-task-status}
-use Rattle.promises.proofs.BookCells.{read-present}
+use Rattle.promises.proofs.BookCells.{book-there}
 use Rattle.promises.proofs.Held.{Held, task-fits, finish-fits, task-number, finish-number, present-mark}
 
 -- what a taken step is: the tables after it are seen as a state that a move of its kind leads to
@@ -33,12 +32,10 @@ task-runs {t} h k made r =
 
 -- a finish that is made and has a book
 pub has-book : {t : List ℕ} {a : State} → Held t a → (f : ℕ) → finishMade t f ≡ true → bookAbsent t f ≡ false → HasBook a f
-unfolding bookAbsent
 has-book {t} h f made there =
     let n = finish-number h f made in
     let f33 = finish-fits h f (n .0) (n .1) .number in
-    let e = eqb-false _ 0 there in
-    record { low = n .0; high = n .1; present = mark-set _ (present-mark h f (n .0) f33) (λ z. e (read-present (h .seen) f (n .0) f33 ∙ z)) }
+    record { low = n .0; high = n .1; present = book-there (h .seen) f (n .0) f33 (present-mark h f (n .0) f33) there }
 
 -- an opener or spawner about to run is blocked
 pub may-run : {t : List ℕ} {a : State} → Seen t a → (o : ℕ) → o < 256 → mayRun t o ≡ true → MayRun a o

@@ -7,7 +7,7 @@ use Prim.Native.Nat.{ℕ, _+_, _-_, _*_, _≤_, _<_}
 use native.Mathlib.Omega.{arith}
 use lib.Dec.{ltb, leb}
 use lib.ListN.{List·getD-eq-default}
-use borrow.Author.Tests.{eqb-true, eqb-false, leb-true, ltb-true, ltb-false}
+use borrow.Author.Tests.{eqb-true, leb-true, ltb-true, ltb-false}
 use Rattle.tables.specs.Bytes.{byte}
 use Rattle.tables.specs.Walks.{someOf}
 use Rattle.tables.proofs.Walks.{every-each}
@@ -29,11 +29,11 @@ use Rattle.model.specs.Effects.Closing.{Closing}
 use Rattle.model.specs.Effects.Deliver
 use Rattle.model.specs.Effects.Deliver.{empty}
 use Rattle.model.specs.Step.{Settle, discards, delivers-publish, delivers-transit, refuses-transit, delivers-report, delivers-ghost-ended, delivers-dropped}
-use Rattle.promises.proofs.Tests.{one-of, below-all, mark-set}
+use Rattle.promises.proofs.Tests.{one-of, below-all}
 use Rattle.promises.proofs.Seen.{Seen}
 use Rattle.promises.proofs.Rows.{read-dead, read-home, read-finish-status}
 use Rattle.promises.proofs.Slots.{countsAt, counts-length, read-counts, read-slots}
-use Rattle.promises.proofs.BookCells.{read-present, read-live}
+use Rattle.promises.proofs.BookCells.{read-present, read-live, book-there}
 use Rattle.promises.proofs.WholeBooks.{read-book}
 use Rattle.promises.proofs.BookBytes.{square, square-in}
 use Rattle.promises.proofs.BookTests.{book-repaired}
@@ -58,8 +58,7 @@ module _ {t : List ℕ} {a : State} (h : Held t a) (k : ℕ) (taken : StepTaken 
   absent e = rw is-finish (sym (read-present (h .seen) f f0 f33) ∙ eqb-true (present t f) 0 e)
 
   there : bookAbsent t f ≡ false → a .books .present f ≡ 1
-  unfolding bookAbsent
-  there e = let q = eqb-false (present t f) 0 e in let r = read-present (h .seen) f f0 f33 in let m = present-mark h f f0 f33 in mark-set (a .books .present f) m (λ z. q (r ∙ z))
+  there = book-there (h .seen) f f0 f33 (present-mark h f f0 f33)
 
   repaired : bookAbsent t f ≡ false → underRepair (deadMask t) (bookOf t f) ≡ false → Repaired a (a .slot k .finish)
   repaired e w = rw is-finish (book-repaired (read-book (h .seen) f f0 f33) (deadMask t) (read-dead (h .seen)) (book-marks h f f0 f33 (there e) .0) w)

@@ -20,10 +20,10 @@ use Rattle.rules.specs.Refusals.{noAction, notThere, wrongPlace, notReady, must
 use Rattle.model.specs.Base.Cases.{bool-cases}
 use Rattle.promises.specs.View.{view}
 use Rattle.promises.specs.Settling.{isSettling, Stirring}
-use Rattle.promises.proofs.Tests.{not-true, mark-set}
+use Rattle.promises.proofs.Tests.{not-true}
 use Rattle.promises.proofs.Seen.{Seen}
 use Rattle.promises.proofs.Rows.{read-places, read-finishes-made, read-dead}
-use Rattle.promises.proofs.BookCells.{read-present, read-due}
+use Rattle.promises.proofs.BookCells.{read-due, book-there}
 use Rattle.promises.proofs.WholeBooks.{at as book-byte}
 use Rattle.promises.proofs.Good.{Good, as-seen}
 use Rattle.promises.proofs.ActsMove.{good-taken}
@@ -40,8 +40,7 @@ module _ {t : List ℕ} (good : Good t) where
 
   module _ (f : ℕ) (f0 : 0 < f) (f33 : f < 33) (there : bookAbsent t f ≡ false) where
     pub is-present : view t .books .present f ≡ 1
-    unfolding bookAbsent
-    is-present = let e = eqb-false (present t f) 0 there in mark-set (view t .books .present f) (good .inv .present-mark f) (λ z. e (read-present s f f0 f33 ∙ z))
+    is-present = book-there s f f0 f33 (good .inv .present-mark f) there
 
     made : finishMade t f ≡ true
     unfolding finishMade

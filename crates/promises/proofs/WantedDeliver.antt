@@ -5,7 +5,7 @@ use mathlib.Core.List.{List, [], _∷_}
 use Prim.Native.Nat.{ℕ, zero, suc, _+_, _*_, _≤_, _<_}
 use native.Mathlib.Omega.{arith}
 use lib.Dec.{eqb, leb}
-use borrow.Author.Tests.{eqb-false, eq-eqb, ne-eqb, le-leb}
+use borrow.Author.Tests.{eq-eqb, ne-eqb, le-leb}
 use Rattle.tables.specs.Bytes.{byte}
 use Rattle.tables.specs.Bits.{marked}
 use Rattle.tables.specs.Walks.{every, someOf, everyBelow}
@@ -25,7 +25,7 @@ use Rattle.model.specs.Promises.Ranges.{transit-room, task-room}
 use Rattle.promises.specs.View.{view}
 use Rattle.promises.proofs.Seen.{Seen}
 use Rattle.promises.proofs.Rows.{read-dead, read-task-status, read-task-maker, read-home, read-opener, read-finish-status}
-use Rattle.promises.proofs.BookCells.{read-present, read-live, read-sent}
+use Rattle.promises.proofs.BookCells.{read-present, read-live, read-sent, book-there}
 use Rattle.promises.proofs.BookBytes.{square-in}
 use Rattle.promises.proofs.WholeBooks.{read-book}
 use Rattle.promises.proofs.LocalCells.{read-received, read-local-live, read-denied}
@@ -93,8 +93,7 @@ module _ (t : List ℕ) (good : Good t) where
       is-home-dead = rw (read-home s f (n .finish-low) (n .finish-high)) (read-dead s (view t .finishes .home f))
 
       there : bookAbsent t f ≡ false → view t .books .present f ≡ 1
-      unfolding bookAbsent
-      there e = let z = eqb-false (present t f) 0 e in omega (arith, read-present s f (n .finish-low) (n .finish-high), inv .present-mark f)
+      there = book-there s f (n .finish-low) (n .finish-high) (inv .present-mark f)
 
       live-is : 3 ≤ m .tag → live t f (m .from) (m .to) ≡ view t .books .live f (m .from) (m .to)
       live-is l = let p = n .places l in read-live s f (n .finish-low) (n .finish-high) (m .from) (m .to) (p .0) (p .1)

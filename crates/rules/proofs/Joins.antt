@@ -1,9 +1,7 @@
 -- The two ways of a step's joiner: the tables where its check refuses, and where it does not.
 use mathlib.Core.Path.{_≡_, sym, _∙_}
-use mathlib.Core.Bool.{cond}
 use mathlib.Core.List.{List}
 use Prim.Native.Nat.{ℕ}
-use lib.Dec.{eqb}
 use borrow.Author.Tests.{eq-eqb, ne-eqb}
 use Rattle.rules.specs.Action.{Action}
 use Rattle.rules.specs.Refusals.{stepAnswer}

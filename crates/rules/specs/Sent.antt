@@ -4,7 +4,6 @@ use mathlib.Core.List.{List}
 use Prim.Native.Nat.{ℕ, _+_, _-_, _*_}
 use lib.Dec.{eqb}
 use lib.ListN.{set}
-use Rattle.tables.specs.Bytes.{byte}
 use Rattle.rules.specs.Fields.{dead, home, isAdopted, live, livePlace}
 use Rattle.rules.specs.Action.{Action, unknown, spawn, openFinish, end, deliver, kill, adopt, cancel, ask, begin}
 use Rattle.rules.specs.Books.{bookOf, withBook, loweredColumn}

@@ -26,7 +26,7 @@ use Rattle.promises.proofs.ActsTaken.{spawn-taken, end-taken}
 use Rattle.promises.proofs.Stirs.{good-stirs}
 use Rattle.growth.specs.Grown.{grown-room}
 use Rattle.plan.specs.declared.Plan.{Plan}
-use Rattle.turns.specs.Acts.{spawnsMore, nextAct}
+use Rattle.acts.specs.Acts.{spawnsMore, nextAct}
 use Rattle.plan.proofs.Ranges.{Ranges}
 use Rattle.run.proofs.Cover.{Still}
 use Rattle.run.proofs.Levels.{spawns-below}

@@ -38,10 +38,10 @@ module _ {p : Plan} (fit : Ranges p) {n : ℕ} {u : List ℕ} (alive : Alive p n
   none-released (rests still none) = λ _. rest-released (alive .good) (still-quiet (alive .good) still) none
 
 pub alive-step : {p : Plan} {n : ℕ} {u : List ℕ} → fits p ≡ true → Alive p n u → (turnRecord p n u ≡ [] → ⊥) → Goes p n u (turnRecord p n u)
-alive-step {p} {n} {u} fit alive = some-goes (ranges p fit) alive (turn-of p u (alive .good .places-most) n)
+alive-step {p} {n} {u} fit alive = some-goes (ranges p fit) alive (turn-of p u n)
 
 pub alive-ended : {p : Plan} {n : ℕ} {u : List ℕ} → fits p ≡ true → Alive p n u → turnRecord p n u ≡ [] → isReleased u 1 ≡ true
-alive-ended {p} {n} {u} fit alive = none-released (ranges p fit) alive (turn-of p u (alive .good .places-most) n)
+alive-ended {p} {n} {u} fit alive = none-released (ranges p fit) alive (turn-of p u n)
 
 pub alive-steps : {p : Plan} {n : ℕ} {u : List ℕ} → Alive p n u → n ≤ 2089
 alive-steps alive = omega (arith, alive .lives .budget)

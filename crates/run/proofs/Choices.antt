@@ -8,7 +8,8 @@ use lib.Dec.{eqb, ltb}
 use borrow.Author.Tests.{eqb-true, eqb-false, ltb-true, ltb-false}
 use Rattle.rules.specs.Refusals.{answer}
 use Rattle.model.specs.Base.Cases.{bool-cases, eq-cases, cond-cases}
-use Rattle.turns.specs.Choice.{firstFrom, firstTaken, orElse}
+use Rattle.acts.specs.First.{firstFrom}
+use Rattle.turns.specs.Choice.{firstTaken, orElse}
 
 module _ (p : ℕ → Bool) where
   -- it is none of those before
@@ -25,23 +26,28 @@ module _ (p : ℕ → Bool) where
       (λ e. rw e e)
       (λ e. rw e (first-holds n (suc i) (omega (arith, rw e at h))))
 
-  -- past them, it holds of none
-  pub first-none : (n i : ℕ) → i + n ≤ firstFrom p i n → (x : ℕ) → i ≤ x → x < i + n → p x ≡ false
+  -- before it, the test holds of none
+  pub first-none : (n i x : ℕ) → i ≤ x → x < firstFrom p i n → p x ≡ false
   unfolding firstFrom
-  first-none zero i h x low high = absurd (omega arith)
-  first-none (suc n) i h x low high = bool-cases (p i)
-      (λ e. absurd (omega (arith, rw e at h)))
-      (λ e. eq-cases x i (λ q. rw q e) (λ ne. first-none n (suc i) (omega (arith, rw e at h)) x (omega arith) (omega arith)))
+  first-none zero i x low high = absurd (omega arith)
+  first-none (suc n) i x low high = bool-cases (p i)
+      (λ e. absurd (omega (arith, rw e at high)))
+      (λ e. eq-cases x i (λ q. rw q e) (λ ne. first-none n (suc i) x (omega arith) (rw e at high)))
 
--- one of the records is taken, or none of them and the other is the choice
+-- none of n numbered records is taken
+abbrev pub NoneOf : List ℕ → (ℕ → List ℕ) → ℕ → Type 0
+NoneOf t records n = (i : ℕ) → i < n → answer t (records i) ≡ 0 → ⊥
+
+-- one of the records is taken and none before it, or none of them and the other is the choice
 pub or-else : (P : List ℕ → Type 0) (t : List ℕ) (records : ℕ → List ℕ) (n : ℕ) (other : List ℕ)
-    → ((i : ℕ) → i < n → answer t (records i) ≡ 0 → P (records i))
-    → (((i : ℕ) → i < n → answer t (records i) ≡ 0 → ⊥) → P other)
+    → ((i : ℕ) → i < n → answer t (records i) ≡ 0 → NoneOf t records i → P (records i))
+    → (NoneOf t records n → P other)
     → P (orElse t records n other)
 unfolding orElse firstTaken
 or-else P t records n other one none =
     let taken : ℕ → Bool = λ i. eqb (answer t (records i)) 0 in
     let i : ℕ = firstFrom taken 0 n in
+    let before : NoneOf t records i = λ x m. eqb-false (answer t (records x)) 0 (first-none taken n 0 x (omega arith) m) in
     cond-cases P (ltb i n) (records i) other
-    (λ e. let l = ltb-true i n e in one i l (eqb-true (answer t (records i)) 0 (first-holds taken n 0 (omega arith))))
-    (λ e. let l = ltb-false i n e in none (λ x m. eqb-false (answer t (records x)) 0 (first-none taken n 0 (omega arith) x (omega arith) (omega arith))))
+    (λ e. let l = ltb-true i n e in one i l (eqb-true (answer t (records i)) 0 (first-holds taken n 0 (omega arith))) before)
+    (λ e. let l = ltb-false i n e in none (λ x m. before x (omega arith)))

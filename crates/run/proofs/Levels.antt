@@ -13,7 +13,7 @@ use Rattle.promises.proofs.Good.{Good, as-seen, tasks-below}
 use Rattle.plan.specs.declared.Plan.{Plan}
 use Rattle.plan.specs.Tree.{levelOf, childrenOf}
 use Rattle.growth.specs.Tree.{level-same, children-same}
-use Rattle.turns.specs.Acts.{spawner, spawnsMore}
+use Rattle.acts.specs.Acts.{spawner, spawnsMore}
 
 module _ {t : List ℕ} (good : Good t) where
   abbrev maker : ℕ → ℕ

@@ -1,5 +1,6 @@
 pub mod Choices
 pub mod Cover
+pub mod Lowest
 pub mod TurnOf
 pub mod Levels
 pub mod Lives

@@ -25,16 +25,12 @@ use Rattle.run.specs.Run.{stepRecord, Ran}
 use Rattle.run.proofs.Alive.{Alive, Goes}
 use Rattle.run.proofs.AliveFirst.{alive-first}
 use Rattle.run.proofs.AliveTurns.{alive-step, alive-ended, alive-steps}
-use Rattle.run.proofs.Noted.{Noted, noted-none, noted-more}
+use Rattle.run.proofs.Noted.{noteOf, Noted, noted-none, noted-more}
 
 -- a record with kind 0 is not taken
 taken-kind : (t r : List ℕ) → answer t r ≡ 0 → byte r 0 ≡ 0 → ⊥
 unfolding actionOf actionNamed noAction
 taken-kind t r done e = true≢false (rw e at (taken t r done .action))
-
--- the five bytes of what was played
-abbrev pub noteOf : Played → List ℕ
-noteOf d = d .kind ∷ d .a ∷ d .b ∷ d .c ∷ d .answer ∷ []
 
 -- Every step so far was taken, and a run that has begun goes on.
 pub record Running (p : Plan) (t log u out : List ℕ) (r : Tally) : Type 0 where
@@ -92,8 +88,7 @@ module _ {p : Plan} {t log u out : List ℕ} {r : Tally} (fit : fits p ≡ true)
   module _ (some : d .kind ≡ 0 → ⊥) (u′ out′ : List ℕ) (r′ : Tally) (gives : u′ ≡ after u (stepRecord p (r .steps) u)) (written : out′ ≡ write out (5 * r .steps) (noteOf d))
       (counts : r′ ≡ noted r (eqb (d .kind) 5) (d .answer)) where
     more : Noted p t log (suc (r .steps)) u′ out′ r′
-    unfolding playedOn
-    more = noted-more (run .noted-all) (omega (arith, running-room some .0)) (answer u x) (goes some .taken) refl u′ out′ r′ gives (rw played at written) (rw played at counts)
+    more = noted-more (run .noted-all) (omega (arith, running-room some .0)) (goes some .taken) d played u′ out′ r′ gives written counts
 
     pub running-counts : r′ .steps ≡ suc (r .steps)
     running-counts = more .steps

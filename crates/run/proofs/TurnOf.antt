@@ -3,19 +3,20 @@
 use mathlib.Core.Path.{_≡_, refl}
 use mathlib.Core.Bool.{Bool, true}
 use mathlib.Core.List.{List, []}
-use Prim.Native.Nat.{ℕ, suc, _*_, _/_, _%_, _≤_}
+use Prim.Native.Nat.{ℕ, suc, _*_, _/_, _%_}
 use native.Mathlib.Omega.{arith}
 use lib.Dec.{eqb, leb}
 use borrow.Author.Tests.{eqb-true, eq-eqb, leb-true, leb-false, le-leb}
 use Rattle.tables.proofs.Walks.{every-each, each-every}
-use Rattle.rules.specs.Fields.{places, tasksMade, finishesMade, taskStatus, taskMade}
+use Rattle.rules.specs.Fields.{tasksMade, finishesMade, taskStatus, taskMade}
 use Rattle.rules.specs.Action.{Action, deliver, kill, adopt, cancel, ask}
 use Rattle.rules.specs.Refusals.{answer}
 use Rattle.model.specs.Base.Cases.{cond-cases, both}
 use Rattle.promises.specs.Settling.{recordOf, isSettling}
 use Rattle.plan.specs.declared.Plan.{Plan}
-use Rattle.turns.specs.Choice.{firstFrom, orElse}
-use Rattle.turns.specs.Acts.{nextAct, lowestRunning, actOf}
+use Rattle.acts.specs.First.{firstFrom}
+use Rattle.turns.specs.Choice.{orElse}
+use Rattle.acts.specs.Acts.{nextAct, lowestRunning, actOf}
 use Rattle.turns.specs.Turn.{adoptRecord, cancelRecord, askRecord, deliverRecord, killRecord, killDue, repairOr, turnRecord}
 use Rattle.run.proofs.Choices.{first-low, first-holds, first-none, or-else}
 use Rattle.run.proofs.Cover.{Still, none-settles}
@@ -26,7 +27,7 @@ pub data TurnOf (p : Plan) (t : List ℕ) : List ℕ → Type 0 where
   acts : Still t → (k : ℕ) → taskMade t k ≡ true → taskStatus t k ≡ 5 → TurnOf p t (nextAct p t k)
   rests : Still t → ((k : ℕ) → taskMade t k ≡ true → taskStatus t k ≡ 5 → ⊥) → TurnOf p t []
 
-module _ (p : Plan) (t : List ℕ) (most : places t ≤ 8) where
+module _ (p : Plan) (t : List ℕ) where
   act-of : Still t → TurnOf p t (actOf p t)
   unfolding actOf lowestRunning taskMade
   act-of still =
@@ -38,7 +39,7 @@ module _ (p : Plan) (t : List ℕ) (most : places t ≤ 8) where
       acts still k (each-every _ (le-leb 1 k (first-low runs made 1), (e, tt))) (eqb-true (taskStatus t k) 5 (first-holds runs made 1 (omega arith))))
       (λ e. let l = leb-false k made e in
       rests still (λ x m s. let r = every-each _ m in
-      both (eq-eqb (taskStatus t x) 5 s) (first-none runs made 1 (omega arith) x (leb-true 1 x (r .0)) (omega (arith, leb-true x made (r .1 .0))))))
+      both (eq-eqb (taskStatus t x) 5 s) (first-none runs made 1 x (leb-true 1 x (r .0)) (omega (arith, leb-true x made (r .1 .0))))))
 
   pub turn-of : (n : ℕ) → TurnOf p t (turnRecord p n t)
   unfolding turnRecord repairOr killDue killRecord adoptRecord cancelRecord askRecord deliverRecord recordOf isSettling
@@ -49,8 +50,8 @@ module _ (p : Plan) (t : List ℕ) (most : places t ≤ 8) where
       let cancels : List ℕ = orElse t cancelRecord (8 * finishesMade t) asks in
       cond-cases (TurnOf p t) (killDue p n t) (killRecord p) (repairOr t delivers)
       (λ e. kills (eqb-true (answer t (killRecord p)) 0 (every-each _ e .1 .1 .1 .0)))
-      (λ _. or-else (TurnOf p t) t adoptRecord (finishesMade t) cancels (λ i _ e. settles (adopt (suc i)) refl e)
-      (λ a. or-else (TurnOf p t) t cancelRecord (8 * finishesMade t) asks (λ i _ e. settles (cancel (suc (i / 8)) (i % 8)) refl e)
-      (λ b. or-else (TurnOf p t) t askRecord (64 * finishesMade t) delivers (λ i _ e. settles (ask (suc (i / 64)) (i / 8 % 8) (i % 8)) refl e)
-      (λ c. or-else (TurnOf p t) t deliverRecord 128 act (λ i _ e. settles (deliver i) refl e)
-      (λ d. act-of (none-settles t most a b c d))))))
+      (λ _. or-else (TurnOf p t) t adoptRecord (finishesMade t) cancels (λ i _ e _. settles (adopt (suc i)) refl e)
+      (λ a. or-else (TurnOf p t) t cancelRecord (8 * finishesMade t) asks (λ i _ e _. settles (cancel (suc (i / 8)) (i % 8)) refl e)
+      (λ b. or-else (TurnOf p t) t askRecord (64 * finishesMade t) delivers (λ i _ e _. settles (ask (suc (i / 64)) (i / 8 % 8) (i % 8)) refl e)
+      (λ c. or-else (TurnOf p t) t deliverRecord 128 act (λ i _ e _. settles (deliver i) refl e)
+      (λ d. act-of (none-settles t a b c d))))))

@@ -13,7 +13,7 @@ use Rattle.rules.specs.Refusals.{answer}
 use Rattle.plan.specs.declared.Plan.{Plan}
 use Rattle.turns.specs.declared.Played.{Played}
 use Rattle.turns.specs.Choice.{orElse}
-use Rattle.turns.specs.Acts.{spawnsMore, nextAct, lowestRunning, actOf}
+use Rattle.acts.specs.Acts.{spawnsMore, nextAct, lowestRunning, actOf}
 use Rattle.turns.specs.Turn.{killRecord, killDue, repairOr}
 use Rattle.turns.specs.Numbered.{recordsOf}
 use Rattle.turns.specs.Played.{playedOn, noStep}

@@ -12,7 +12,7 @@ use Rattle.rules.specs.Refusals.{answer}
 use Rattle.turns.specs.declared.Played.{Played}
 use Rattle.turns.specs.Choice.{firstTaken, orElse}
 use Rattle.turns.specs.Played.{playedOn, noStep}
-use Rattle.turns.proofs.Search.{searchLeft, search-none, search-pass, search-stop, search-done}
+use Rattle.acts.proofs.Search.{searchLeft, search-none, search-pass, search-stop, search-done}
 use Rattle.turns.proofs.Choice.{Choosing, choose-if, refused-keeps, Plays, no-play}
 
 module _ (t : List ℕ) (records : ℕ → List ℕ) where

@@ -1,14 +1,10 @@
--- The lowest of many: the first number of which a test holds; the first of numbered records that is taken.
-use mathlib.Core.Bool.{Bool, cond}
+-- The lowest of numbered records that is taken.
+use mathlib.Core.Bool.{cond}
 use mathlib.Core.List.{List}
-use Prim.Native.Nat.{ℕ, zero, suc}
+use Prim.Native.Nat.{ℕ}
 use lib.Dec.{eqb, ltb}
 use Rattle.rules.specs.Refusals.{answer}
-
--- the first of the n numbers from i on of which p holds, or the number after the last
-unfoldable pub firstFrom : (ℕ → Bool) → ℕ → ℕ → ℕ
-firstFrom p i zero = i
-firstFrom p i (suc n) = cond (p i) i (firstFrom p (suc i) n)
+use Rattle.acts.specs.First.{firstFrom}
 
 -- the number of the first of n records that is taken, or n
 unfoldable pub firstTaken : List ℕ → (ℕ → List ℕ) → ℕ → ℕ

@@ -1,5 +1,4 @@
 pub mod Choice
-pub mod Acts
 pub mod Turn
 pub mod Numbered
 pub mod Played

@@ -10,7 +10,7 @@ use Rattle.rules.specs.Fields.{finishesMade}
 use Rattle.rules.specs.Refusals.{answer}
 use Rattle.plan.specs.declared.Plan.{Plan}
 use Rattle.turns.specs.Choice.{orElse}
-use Rattle.turns.specs.Acts.{actOf}
+use Rattle.acts.specs.Acts.{actOf}
 
 -- the ranges of a plan that a turn takes; a plan that fits has them
 abbrev pub Playable : Plan → Type 0

@@ -1,6 +1,5 @@
 use Rattle.tables.proofs.Tests.{plain}
 use Rattle.actions.specs.Records.{isAction}
-use borrow.Author.Needs.{needs}
 use Rattle.actions.proofs.is_action.Statement.{statement}
 use Rattle.actions.proofs.is_action.Tie as tie
 use Rattle.actions.proofs.is_action.Reads as reads

@@ -1,6 +1,6 @@
 use Rattle.ask.proofs.Laws.{ask-taken, ask-room}
 use Rattle.rules.specs.Ask.{askStep}
-use Rattle.rules.specs.Messages.{message, bytesOf, send}
+use Rattle.rules.specs.Messages.{bytesOf, send}
 use Rattle.rules.specs.Step.{step}
 use borrow.Author.Needs.{needs}
 use Rattle.ask.proofs.ask_apply.Statement.{statement}

@@ -6,7 +6,7 @@ use Rattle.turns.proofs.act.Tie as tie
 use Rattle.turns.proofs.act.Reads as reads
 use Rattle.turns.proofs.act.Lts as lts
 use Rattle.tables.proofs.wide.Reads as wide-reads
-use Rattle.turns.proofs.lowest_running.Reads as lowest-running-reads
+use Rattle.acts.proofs.lowest_running.Reads as lowest-running-reads
 use Rattle.turns.proofs.no_step.Reads as no-step-reads
 use Rattle.turns.proofs.task_act.Reads as task-act-reads
 

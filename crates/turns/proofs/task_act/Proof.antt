@@ -5,9 +5,9 @@ use Rattle.turns.proofs.task_act.Tie as tie
 use Rattle.turns.proofs.task_act.Reads as reads
 use Rattle.turns.proofs.task_act.Lts as lts
 use Rattle.fields.proofs.task_byte.Reads as task-byte-reads
-use Rattle.turns.proofs.next_place.Reads as next-place-reads
+use Rattle.acts.proofs.next_place.Reads as next-place-reads
 use Rattle.turns.proofs.play.Reads as play-reads
-use Rattle.turns.proofs.spawns_more.Reads as spawns-more-reads
+use Rattle.acts.proofs.spawns_more.Reads as spawns-more-reads
 
 spawns-more-requires : tie.Need-spawns-more-requires
 spawns-more-requires c κs = search needs

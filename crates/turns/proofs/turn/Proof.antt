@@ -3,7 +3,7 @@ use Prim.Native.Nat.{ℕ}
 use native.Mathlib.Omega.{arith}
 use Rattle.plan.specs.declared.Plan.{Plan}
 use Rattle.turns.specs.Choice.{orElse}
-use Rattle.turns.specs.Acts.{actOf}
+use Rattle.acts.specs.Acts.{actOf}
 use Rattle.turns.specs.Turn.{repairOr, turnRecord}
 use Rattle.turns.specs.Numbered.{recordsOf, mostOf}
 use Rattle.turns.proofs.Choice.{stops, goes-on}

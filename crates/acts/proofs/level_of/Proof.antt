@@ -1,13 +1,13 @@
 use Prim.Native.Nat.{_≤_, _-_}
 use mathlib.Core.Path.{_≡_}
-use Rattle.turns.specs.Acts.{spawner}
+use Rattle.acts.specs.Acts.{spawner}
 use Rattle.plan.specs.Tree.{levelOf}
-use Rattle.turns.proofs.Acts.{levelLeft, level-none, level-pass, level-stop, level-done}
+use Rattle.acts.proofs.Acts.{levelLeft, level-none, level-pass, level-stop, level-done}
 use borrow.Author.Needs.{needs}
-use Rattle.turns.proofs.level_of.Statement.{statement}
-use Rattle.turns.proofs.level_of.Tie as tie
-use Rattle.turns.proofs.level_of.Reads as reads
-use Rattle.turns.proofs.level_of.Lts as lts
+use Rattle.acts.proofs.level_of.Statement.{statement}
+use Rattle.acts.proofs.level_of.Tie as tie
+use Rattle.acts.proofs.level_of.Reads as reads
+use Rattle.acts.proofs.level_of.Lts as lts
 use Rattle.fields.proofs.task_byte.Reads as task-byte-reads
 
 abbrev Inv-loop : tie.InvT-loop

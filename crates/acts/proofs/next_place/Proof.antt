@@ -1,9 +1,9 @@
-use Rattle.turns.proofs.Acts.{place-fits}
+use Rattle.acts.proofs.Acts.{place-fits}
 use borrow.Author.Needs.{needs}
-use Rattle.turns.proofs.next_place.Statement.{statement}
-use Rattle.turns.proofs.next_place.Tie as tie
-use Rattle.turns.proofs.next_place.Reads as reads
-use Rattle.turns.proofs.next_place.Lts as lts
+use Rattle.acts.proofs.next_place.Statement.{statement}
+use Rattle.acts.proofs.next_place.Tie as tie
+use Rattle.acts.proofs.next_place.Reads as reads
+use Rattle.acts.proofs.next_place.Lts as lts
 
 add-result : tie.Need-add-result
 add-result c = search needs

@@ -11,8 +11,8 @@ use lib.Dec.{eqb}
 use Rattle.tables.specs.Bits.{digit}
 use Rattle.rules.specs.Fields.{tasksMade, taskStatus, taskMaker, running}
 use Rattle.plan.specs.Tree.{levelOf, childrenOf}
-use Rattle.turns.specs.Acts.{spawner, lowestRunning}
-use Rattle.turns.proofs.Search.{searchLeft, search-none, search-pass, search-stop, search-done}
+use Rattle.acts.specs.Acts.{spawner, lowestRunning}
+use Rattle.acts.proofs.Search.{searchLeft, search-none, search-pass, search-stop, search-done}
 
 -- ---- a level: `up` rows above are passed, and k is the task there
 unfoldable pub levelLeft : List ℕ → ℕ → ℕ → ℕ → ℕ

@@ -1,14 +1,14 @@
 use mathlib.Core.Path.{refl}
 use Rattle.tables.specs.Walks.{every}
 use Rattle.tables.proofs.Tests.{was-lt, was-ge}
-use Rattle.turns.specs.Acts.{spawnsMore}
+use Rattle.acts.specs.Acts.{spawnsMore}
 use borrow.Author.Needs.{needs}
-use Rattle.turns.proofs.spawns_more.Statement.{statement}
-use Rattle.turns.proofs.spawns_more.Tie as tie
-use Rattle.turns.proofs.spawns_more.Reads as reads
-use Rattle.turns.proofs.spawns_more.Lts as lts
-use Rattle.turns.proofs.level_of.Reads as level-of-reads
-use Rattle.turns.proofs.children_of.Reads as children-of-reads
+use Rattle.acts.proofs.spawns_more.Statement.{statement}
+use Rattle.acts.proofs.spawns_more.Tie as tie
+use Rattle.acts.proofs.spawns_more.Reads as reads
+use Rattle.acts.proofs.spawns_more.Lts as lts
+use Rattle.acts.proofs.level_of.Reads as level-of-reads
+use Rattle.acts.proofs.children_of.Reads as children-of-reads
 
 level-of-requires : tie.Need-level-of-requires
 level-of-requires c κs = search needs

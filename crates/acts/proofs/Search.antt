@@ -3,7 +3,7 @@ use mathlib.Core.Path.{_≡_, refl, sym, ap, _∙_}
 use mathlib.Core.Bool.{Bool, true, false, cond}
 use Prim.Native.Nat.{ℕ, suc, _+_, _-_, _≤_, _<_}
 use native.Mathlib.Omega.{arith}
-use Rattle.turns.specs.Choice.{firstFrom}
+use Rattle.acts.specs.First.{firstFrom}
 
 -- what is left of it
 unfoldable pub searchLeft : (ℕ → Bool) → ℕ → ℕ → ℕ → ℕ

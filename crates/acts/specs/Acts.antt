@@ -8,7 +8,7 @@ use Rattle.tables.specs.Walks.{every}
 use Rattle.rules.specs.Fields.{tasksMade, taskAt, taskStatus, taskMaker, running}
 use Rattle.plan.specs.declared.Plan.{Plan}
 use Rattle.plan.specs.Tree.{levelOf, childrenOf}
-use Rattle.turns.specs.Choice.{firstFrom}
+use Rattle.acts.specs.First.{firstFrom}
 
 -- who spawned task k; 0 for task 1
 abbrev pub spawner : List ℕ → ℕ → ℕ

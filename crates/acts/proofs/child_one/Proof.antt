@@ -1,10 +1,10 @@
 use mathlib.Core.Path.{sym, _∙_}
 use borrow.Author.Tests.{eq-eqb, ne-eqb}
 use borrow.Author.Needs.{needs}
-use Rattle.turns.proofs.child_one.Statement.{statement}
-use Rattle.turns.proofs.child_one.Tie as tie
-use Rattle.turns.proofs.child_one.Reads as reads
-use Rattle.turns.proofs.child_one.Lts as lts
+use Rattle.acts.proofs.child_one.Statement.{statement}
+use Rattle.acts.proofs.child_one.Tie as tie
+use Rattle.acts.proofs.child_one.Reads as reads
+use Rattle.acts.proofs.child_one.Lts as lts
 use Rattle.fields.proofs.task_byte.Reads as task-byte-reads
 
 task-byte-requires : tie.Need-task-byte-requires

@@ -1,12 +1,12 @@
 use Prim.Native.Nat.{_≤_, _<_, _-_}
 use mathlib.Core.Path.{_≡_}
-use Rattle.turns.specs.Acts.{lowestRunning}
-use Rattle.turns.proofs.Acts.{runningLeft, running-none, running-pass, running-stop, running-done}
+use Rattle.acts.specs.Acts.{lowestRunning}
+use Rattle.acts.proofs.Acts.{runningLeft, running-none, running-pass, running-stop, running-done}
 use borrow.Author.Needs.{needs}
-use Rattle.turns.proofs.lowest_running.Statement.{statement}
-use Rattle.turns.proofs.lowest_running.Tie as tie
-use Rattle.turns.proofs.lowest_running.Reads as reads
-use Rattle.turns.proofs.lowest_running.Lts as lts
+use Rattle.acts.proofs.lowest_running.Statement.{statement}
+use Rattle.acts.proofs.lowest_running.Tie as tie
+use Rattle.acts.proofs.lowest_running.Reads as reads
+use Rattle.acts.proofs.lowest_running.Lts as lts
 use Rattle.fields.proofs.has_status.Reads as has-status-reads
 use Rattle.tables.proofs.wide.Reads as wide-reads
 

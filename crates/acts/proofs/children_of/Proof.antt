@@ -1,14 +1,14 @@
 use Prim.Native.Nat.{_≤_, _-_}
 use mathlib.Core.Path.{_≡_}
-use Rattle.turns.specs.Acts.{spawner}
+use Rattle.acts.specs.Acts.{spawner}
 use Rattle.plan.specs.Tree.{childrenOf}
-use Rattle.turns.proofs.Acts.{children-none, children-more, children-done}
+use Rattle.acts.proofs.Acts.{children-none, children-more, children-done}
 use borrow.Author.Needs.{needs}
-use Rattle.turns.proofs.children_of.Statement.{statement}
-use Rattle.turns.proofs.children_of.Tie as tie
-use Rattle.turns.proofs.children_of.Reads as reads
-use Rattle.turns.proofs.children_of.Lts as lts
-use Rattle.turns.proofs.child_one.Reads as child-one-reads
+use Rattle.acts.proofs.children_of.Statement.{statement}
+use Rattle.acts.proofs.children_of.Tie as tie
+use Rattle.acts.proofs.children_of.Reads as reads
+use Rattle.acts.proofs.children_of.Lts as lts
+use Rattle.acts.proofs.child_one.Reads as child-one-reads
 
 abbrev Inv-loop : tie.InvT-loop
 Inv-loop t k n c₀ j₀ c j = (j ≤ n) × ((c ≤ j) × (c ≡ childrenOf (spawner t) j k))
