@@ -1,8 +1,14 @@
-# make run plays case A of document 01; make test is the whole gate; make bench and make soak go on from what it proved.
-.PHONY: run test bench soak
+# make run plays case A of document 01, make tree grows the tree of LINE; make test is the whole gate; make bench and make soak go on
+# from what it proved.
+.PHONY: run tree test bench soak
+
+LINE ?= 3 2 3 1 20
 
 run:
-	@tests/play.sh
+	@tests/play.sh replay <crates/replay/stdin
+
+tree:
+	@echo "$(LINE)" | tests/play.sh tree
 
 test:
 	@tests/gate.sh

@@ -1,12 +1,15 @@
 #!/usr/bin/env bash
-# Plays case A of document 01 with the replay program, which is proved and built first where it is not yet.
+# Runs a program of crates/ on standard input; it is proved and built first where it is not yet.
+#
+#   play.sh PROGRAM
 set -euo pipefail
 cd "$(dirname "$0")/.."
 
+program=${1:?"play.sh PROGRAM"}
 . tests/machine.sh
-[ -x target/bin/replay ] || echo "proving and building the replay program: some minutes, the first time" >&2
+[ -x "target/bin/$program" ] || echo "proving and building the program $program: some minutes, the first time" >&2
 log=$(mktemp)
 trap 'rm -f "$log"' EXIT
-rt check replay >"$log" 2>&1 || { cat "$log" >&2; exit 1; }
+rt check "$program" </dev/null >"$log" 2>&1 || { cat "$log" >&2; exit 1; }
 read -ra run <<<"$RUN"
-"${run[@]}" target/bin/replay <crates/replay/stdin
+"${run[@]}" "target/bin/$program"
