@@ -1,5 +1,6 @@
-// The lines of the programs: a record's of the printed run and a step's of a tree, put into a buffer that the caller lends, and those
-// that say a last incomplete record and the end.
+// The lines of the programs: a record's of the printed run and a step's of a tree, put into a buffer that the caller lends; a line read;
+// those that say a last incomplete record and the end.
+use libc::STDIN_FILENO;
 use libc::STDOUT_FILENO;
 ghost use mathlib.Core.Path.{_≡_};
 ghost use Prim.Native.Nat.{_+_, _*_, _^_, _≤_, _<_};
@@ -67,6 +68,26 @@ pub fn put_steps(out: &mut [u8], log: &[u8], n: usize) -> usize
         i += 1;
     }
     e
+}
+
+// Reads a line of standard input, byte by byte, so that nothing after it is read: up to its newline, which is left out, or to the end
+// of the input, or as many bytes as the buffer holds. Answers how many there are.
+pub fn read_line(line: &mut [u8]) -> usize
+    ensures { λ r. ⌜ Counts r (now (line .exit)) ⌝ }
+{
+    let mut n: usize = 0;
+    while n < line.len() {
+        let mut one = [0u8; 1];
+        if io::read_full(STDIN_FILENO, &mut one) == 0 {
+            return n;
+        }
+        if one[0] == b'\n' {
+            return n;
+        }
+        line[n] = one[0];
+        n += 1;
+    }
+    n
 }
 
 // Says a number and a space.

@@ -3,3 +3,4 @@ pub mod Spelling
 pub mod Lines
 pub mod Places
 pub mod Trees
+pub mod Cut

@@ -4,23 +4,19 @@ use Rattle.tree.proofs.main.Statement.{statement}
 use Rattle.tree.proofs.main.Tie as tie
 use Rattle.tree.proofs.main.Reads as reads
 use Rattle.tree.proofs.main.Lts as lts
-use Rattle.io.proofs.buffer.Reads as buffer-reads
-use Rattle.io.proofs.read_full.Reads as read-full-reads
 use Rattle.io.proofs.write_all.Reads as write-all-reads
+use Rattle.lines.proofs.read_line.Reads as read-line-reads
 use Rattle.plan.proofs.read_plan.Reads as read-plan-reads
 use Rattle.tree.proofs.print_run.Reads as print-run-reads
 
-buffer-requires : tie.Need-buffer-requires
-buffer-requires c κs = search needs
+slice-aggregate-read-line : tie.Need-slice-aggregate-read-line
+slice-aggregate-read-line c = search needs
 
-slice-aggregate-read-full : tie.Need-slice-aggregate-read-full
-slice-aggregate-read-full c = search needs
+read-line-requires : tie.Need-read-line-requires
+read-line-requires c κs = search needs
 
-read-full-requires : tie.Need-read-full-requires
-read-full-requires c κs = search needs
-
-array-share-prefix-input : tie.Need-array-share-prefix-input
-array-share-prefix-input c = search needs
+array-share-prefix-line : tie.Need-array-share-prefix-line
+array-share-prefix-line c = search needs
 
 slice-aggregate-read-plan : tie.Need-slice-aggregate-read-plan
 slice-aggregate-read-plan c = search needs
@@ -47,10 +43,9 @@ pub main-spec : {M : Type 1} → statement M
 main-spec =
     tie.close
     (tie.spec
-    buffer-requires
-    slice-aggregate-read-full
-    read-full-requires
-    array-share-prefix-input
+    slice-aggregate-read-line
+    read-line-requires
+    array-share-prefix-line
     slice-aggregate-read-plan
     read-plan-requires
     slice-aggregate-write-all
