@@ -9,7 +9,7 @@ use borrow.Author.Tests.{eqb-true, eqb-false, ltb-true, ltb-false}
 use Rattle.rules.specs.Refusals.{answer}
 use Rattle.model.specs.Base.Cases.{bool-cases, eq-cases, cond-cases}
 use Rattle.acts.specs.First.{firstFrom}
-use Rattle.turns.specs.Choice.{firstTaken, orElse}
+use Rattle.turns.specs.Choice.{firstTaken, takenOr}
 
 module _ (p : ℕ → Bool) where
   -- it is none of those before
@@ -39,12 +39,12 @@ abbrev pub NoneOf : List ℕ → (ℕ → List ℕ) → ℕ → Type 0
 NoneOf t records n = (i : ℕ) → i < n → answer t (records i) ≡ 0 → ⊥
 
 -- one of the records is taken and none before it, or none of them and the other is the choice
-pub or-else : (P : List ℕ → Type 0) (t : List ℕ) (records : ℕ → List ℕ) (n : ℕ) (other : List ℕ)
+pub taken-or : (P : List ℕ → Type 0) (t : List ℕ) (records : ℕ → List ℕ) (n : ℕ) (other : List ℕ)
     → ((i : ℕ) → i < n → answer t (records i) ≡ 0 → NoneOf t records i → P (records i))
     → (NoneOf t records n → P other)
-    → P (orElse t records n other)
-unfolding orElse firstTaken
-or-else P t records n other one none =
+    → P (takenOr t records n other)
+unfolding takenOr firstTaken
+taken-or P t records n other one none =
     let taken : ℕ → Bool = λ i. eqb (answer t (records i)) 0 in
     let i : ℕ = firstFrom taken 0 n in
     let before : NoneOf t records i = λ x m. eqb-false (answer t (records x)) 0 (first-none taken n 0 x (omega arith) m) in

@@ -9,10 +9,10 @@ use borrow.Author.Tests.{eqb-true, eq-eqb, ne-eqb, le-ltb}
 use Rattle.tables.specs.Bytes.{byte}
 use Rattle.rules.specs.Refusals.{answer}
 use Rattle.model.specs.Base.Cases.{eq-cases, or-cases, or-left, or-right, both}
-use Rattle.turns.specs.Choice.{orElse}
+use Rattle.turns.specs.Choice.{takenOr}
 use Rattle.turns.specs.Turn.{adoptRecord, cancelRecord, askRecord, deliverRecord, repairOr}
 use Rattle.run.specs.Lowest.{precedes, isOf, Lowest, lowest, none, LowestRepair, LowestDeliver}
-use Rattle.run.proofs.Choices.{NoneOf, or-else}
+use Rattle.run.proofs.Choices.{NoneOf, taken-or}
 use Rattle.run.proofs.Cover.{Covers, refused, deliver-covers, adopt-covers, cancel-covers, ask-covers}
 
 -- bytes do not come before others that begin no higher, if the rest does not where they begin alike
@@ -92,8 +92,8 @@ module _ {t kinds : List ℕ} {kind : ℕ} {records : ℕ → List ℕ} {n : ℕ
   later before (none nothing) = none
       (λ r h done. or-cases _ _ h (λ own. refused t covers before r (eqb-true (byte r 0) kind own) done) (λ higher. nothing r higher done))
 
-  in-front : (next : List ℕ) → Lowest t kinds other next → Lowest t (kind ∷ kinds) other (orElse t records n next)
-  in-front next rest = or-else (Lowest t (kind ∷ kinds) other) t records n next first (λ before. later before rest)
+  in-front : (next : List ℕ) → Lowest t kinds other next → Lowest t (kind ∷ kinds) other (takenOr t records n next)
+  in-front next rest = taken-or (Lowest t (kind ∷ kinds) other) t records n next first (λ before. later before rest)
 
 no-kinds : (t other : List ℕ) → Lowest t [] other other
 unfolding isOf

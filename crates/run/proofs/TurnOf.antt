@@ -15,10 +15,10 @@ use Rattle.model.specs.Base.Cases.{cond-cases, both}
 use Rattle.promises.specs.Settling.{recordOf, isSettling}
 use Rattle.plan.specs.declared.Plan.{Plan}
 use Rattle.acts.specs.First.{firstFrom}
-use Rattle.turns.specs.Choice.{orElse}
+use Rattle.turns.specs.Choice.{takenOr}
 use Rattle.acts.specs.Acts.{nextAct, lowestRunning, actOf}
 use Rattle.turns.specs.Turn.{adoptRecord, cancelRecord, askRecord, deliverRecord, killRecord, killDue, repairOr, turnRecord}
-use Rattle.run.proofs.Choices.{first-low, first-holds, first-none, or-else}
+use Rattle.run.proofs.Choices.{first-low, first-holds, first-none, taken-or}
 use Rattle.run.proofs.Cover.{Still, none-settles}
 
 pub data TurnOf (p : Plan) (t : List ℕ) : List ℕ → Type 0 where
@@ -45,13 +45,13 @@ module _ (p : Plan) (t : List ℕ) where
   unfolding turnRecord repairOr killDue killRecord adoptRecord cancelRecord askRecord deliverRecord recordOf isSettling
   turn-of n =
       let act : List ℕ = actOf p t in
-      let delivers : List ℕ = orElse t deliverRecord 128 act in
-      let asks : List ℕ = orElse t askRecord (64 * finishesMade t) delivers in
-      let cancels : List ℕ = orElse t cancelRecord (8 * finishesMade t) asks in
+      let delivers : List ℕ = takenOr t deliverRecord 128 act in
+      let asks : List ℕ = takenOr t askRecord (64 * finishesMade t) delivers in
+      let cancels : List ℕ = takenOr t cancelRecord (8 * finishesMade t) asks in
       cond-cases (TurnOf p t) (killDue p n t) (killRecord p) (repairOr t delivers)
       (λ e. kills (eqb-true (answer t (killRecord p)) 0 (every-each _ e .1 .1 .1 .0)))
-      (λ _. or-else (TurnOf p t) t adoptRecord (finishesMade t) cancels (λ i _ e _. settles (adopt (suc i)) refl e)
-      (λ a. or-else (TurnOf p t) t cancelRecord (8 * finishesMade t) asks (λ i _ e _. settles (cancel (suc (i / 8)) (i % 8)) refl e)
-      (λ b. or-else (TurnOf p t) t askRecord (64 * finishesMade t) delivers (λ i _ e _. settles (ask (suc (i / 64)) (i / 8 % 8) (i % 8)) refl e)
-      (λ c. or-else (TurnOf p t) t deliverRecord 128 act (λ i _ e _. settles (deliver i) refl e)
+      (λ _. taken-or (TurnOf p t) t adoptRecord (finishesMade t) cancels (λ i _ e _. settles (adopt (suc i)) refl e)
+      (λ a. taken-or (TurnOf p t) t cancelRecord (8 * finishesMade t) asks (λ i _ e _. settles (cancel (suc (i / 8)) (i % 8)) refl e)
+      (λ b. taken-or (TurnOf p t) t askRecord (64 * finishesMade t) delivers (λ i _ e _. settles (ask (suc (i / 64)) (i / 8 % 8) (i % 8)) refl e)
+      (λ c. taken-or (TurnOf p t) t deliverRecord 128 act (λ i _ e _. settles (deliver i) refl e)
       (λ d. act-of (none-settles t a b c d))))))

@@ -7,7 +7,7 @@ use Prim.Native.Nat.{ℕ}
 use lib.Dec.{eqb, ltb}
 use Rattle.tables.specs.Bytes.{byte}
 use Rattle.rules.specs.Refusals.{answer}
-use Rattle.turns.specs.Choice.{orElse}
+use Rattle.turns.specs.Choice.{takenOr}
 use Rattle.turns.specs.Turn.{deliverRecord, repairOr}
 
 -- the first bytes come before the second: at the leftmost place where they differ they are lower, or they end there
@@ -33,4 +33,4 @@ LowestRepair = (t other : List ℕ) → Lowest t (6 ∷ 7 ∷ 8 ∷ []) other (r
 
 -- the lowest deliver (4) that is taken; of two delivers the one whose slot is lower precedes
 abbrev pub LowestDeliver : Type 0
-LowestDeliver = (t other : List ℕ) → Lowest t (4 ∷ []) other (orElse t deliverRecord 128 other)
+LowestDeliver = (t other : List ℕ) → Lowest t (4 ∷ []) other (takenOr t deliverRecord 128 other)

@@ -12,7 +12,7 @@ use Rattle.rules.specs.Fields.{tasksMade, finishesMade, taskAt}
 use Rattle.rules.specs.Refusals.{answer}
 use Rattle.plan.specs.declared.Plan.{Plan}
 use Rattle.turns.specs.declared.Played.{Played}
-use Rattle.turns.specs.Choice.{orElse}
+use Rattle.turns.specs.Choice.{takenOr}
 use Rattle.acts.specs.Acts.{spawnsMore, nextAct, lowestRunning, actOf}
 use Rattle.turns.specs.Turn.{killRecord, killDue, repairOr}
 use Rattle.turns.specs.Numbered.{recordsOf}
@@ -22,11 +22,11 @@ use Rattle.turns.proofs.Taken.{else-chooses}
 use Rattle.turns.proofs.Records.{not-none}
 
 -- ---- the lowest of a kind
-pub kind-chooses : (kind : ℕ) (t : List ℕ) (n : ℕ) → Choosing (orElse t (recordsOf kind) n)
+pub kind-chooses : (kind : ℕ) (t : List ℕ) (n : ℕ) → Choosing (takenOr t (recordsOf kind) n)
 kind-chooses kind t n = else-chooses t (recordsOf kind) n (not-none kind)
 
 -- repair, with its kinds by number
-pub repair-is : (t : List ℕ) (n : ℕ) → n ≡ finishesMade t → (o : List ℕ) → repairOr t o ≡ orElse t (recordsOf 6) n (orElse t (recordsOf 7) (8 * n) (orElse t (recordsOf 8) (64 * n) o))
+pub repair-is : (t : List ℕ) (n : ℕ) → n ≡ finishesMade t → (o : List ℕ) → repairOr t o ≡ takenOr t (recordsOf 6) n (takenOr t (recordsOf 7) (8 * n) (takenOr t (recordsOf 8) (64 * n) o))
 unfolding repairOr recordsOf
 repair-is t n e o = rw e
 
@@ -34,7 +34,7 @@ pub repair-chooses : (t : List ℕ) → Choosing (repairOr t)
 unfolding repairOr recordsOf
 repair-chooses t =
     let n = finishesMade t in
-    choose-then (orElse t (recordsOf 6) n) _ (kind-chooses 6 t n) (choose-then (orElse t (recordsOf 7) (8 * n)) _ (kind-chooses 7 t (8 * n)) (kind-chooses 8 t (64 * n)))
+    choose-then (takenOr t (recordsOf 6) n) _ (kind-chooses 6 t n) (choose-then (takenOr t (recordsOf 7) (8 * n)) _ (kind-chooses 7 t (8 * n)) (kind-chooses 8 t (64 * n)))
 
 -- ---- the kill
 pub kill-chooses : (p : Plan) (n : ℕ) (t : List ℕ) → Choosing (cond (killDue p n t) (killRecord p))

@@ -10,7 +10,7 @@ use lib.Dec.{eqb, ltb}
 use Rattle.tables.specs.Bytes.{byte}
 use Rattle.rules.specs.Refusals.{answer}
 use Rattle.turns.specs.declared.Played.{Played}
-use Rattle.turns.specs.Choice.{firstTaken, orElse}
+use Rattle.turns.specs.Choice.{firstTaken, takenOr}
 use Rattle.turns.specs.Played.{playedOn, noStep}
 use Rattle.acts.proofs.Search.{searchLeft, search-none, search-pass, search-stop, search-done}
 use Rattle.turns.proofs.Choice.{Choosing, choose-if, refused-keeps, Plays, no-play}
@@ -34,21 +34,21 @@ module _ (t : List ℕ) (records : ℕ → List ℕ) where
           let e : 0 + i ≡ i = zero-add i in
           search-pass test 0 n i _ h (rw e (ne-eqb (answer t (records i)) 0 z)) inv
 
-      taken-stop : i < n → answer t (records i) ≡ 0 → (o : List ℕ) → orElse t records n o ≡ records i
-      unfolding takenLeft orElse
+      taken-stop : i < n → answer t (records i) ≡ 0 → (o : List ℕ) → takenOr t records n o ≡ records i
+      unfolding takenLeft takenOr
       taken-stop h z o =
           let e : 0 + i ≡ i = zero-add i in
           let q : firstTaken t records n ≡ i = sym (search-stop test 0 n i _ h (rw e (eq-eqb (answer t (records i)) 0 z)) inv) ∙ e in
           rw (q, lt-ltb i n h)
 
-      taken-done : n ≤ i → i ≤ n → (o : List ℕ) → orElse t records n o ≡ o
-      unfolding takenLeft orElse
+      taken-done : n ≤ i → i ≤ n → (o : List ℕ) → takenOr t records n o ≡ o
+      unfolding takenLeft takenOr
       taken-done h l o =
           let q : firstTaken t records n ≡ n = sym (search-done test 0 n i _ h l inv) ∙ zero-add n in
           rw (q, le-ltb n n (omega arith))
 
-    pub else-chooses : ((i : ℕ) → byte (records i) 0 ≡ 0 → ⊥) → Choosing (orElse t records n)
-    unfolding orElse
+    pub else-chooses : ((i : ℕ) → byte (records i) 0 ≡ 0 → ⊥) → Choosing (takenOr t records n)
+    unfolding takenOr
     else-chooses named = choose-if (ltb (firstTaken t records n) n) (records (firstTaken t records n)) (named (firstTaken t records n))
 
 -- record i played: it ends the search, or the search goes on with the same tables
@@ -61,7 +61,7 @@ module _ (t : List ℕ) (records : ℕ → List ℕ) (n i : ℕ) (inv : takenLef
     unfolding playedOn
     tried-answer = ap (λ (y : Played). y .answer) (tried .0)
 
-    pub try-stop : x .answer ≡ 0 → Plays t (orElse t records n []) x u
+    pub try-stop : x .answer ≡ 0 → Plays t (takenOr t records n []) x u
     try-stop z = rw (taken-stop t records n i inv h (sym tried-answer ∙ z) []) tried
 
     pub try-pass : (x .answer ≡ 0 → ⊥) → (u ≡ t) × (takenLeft t records n (i + 1) ≡ firstTaken t records n)
@@ -70,5 +70,5 @@ module _ (t : List ℕ) (records : ℕ → List ℕ) (n i : ℕ) (inv : takenLef
         (tried .1 ∙ refused-keeps t (records i) no, taken-pass t records n i inv h no)
 
   -- all are refused
-  pub try-done : n ≤ i → i ≤ n → x ≡ noStep → Plays t (orElse t records n []) x s
+  pub try-done : n ≤ i → i ≤ n → x ≡ noStep → Plays t (takenOr t records n []) x s
   try-done h l none = rw (taken-done t records n i inv h l []) (no-play t s x same none)

@@ -11,5 +11,5 @@ unfoldable pub firstTaken : List ℕ → (ℕ → List ℕ) → ℕ → ℕ
 firstTaken t records n = firstFrom (λ i. eqb (answer t (records i)) 0) 0 n
 
 -- that record; another where none of them is taken
-unfoldable pub orElse : List ℕ → (ℕ → List ℕ) → ℕ → List ℕ → List ℕ
-orElse t records n other = cond (ltb (firstTaken t records n) n) (records (firstTaken t records n)) other
+unfoldable pub takenOr : List ℕ → (ℕ → List ℕ) → ℕ → List ℕ → List ℕ
+takenOr t records n other = cond (ltb (firstTaken t records n) n) (records (firstTaken t records n)) other

@@ -9,7 +9,7 @@ use Rattle.tables.specs.Walks.{every}
 use Rattle.rules.specs.Fields.{finishesMade}
 use Rattle.rules.specs.Refusals.{answer}
 use Rattle.plan.specs.declared.Plan.{Plan}
-use Rattle.turns.specs.Choice.{orElse}
+use Rattle.turns.specs.Choice.{takenOr}
 use Rattle.acts.specs.Acts.{actOf}
 
 -- the ranges of a plan that a turn takes; a plan that fits has them
@@ -40,8 +40,8 @@ killDue p n t = every (leb 1 (p .killstep) ∷ leb (p .killstep) n ∷ leb 1 (p 
 -- the lowest adopt, cancel or ask that is taken
 unfoldable pub repairOr : List ℕ → List ℕ → List ℕ
 repairOr t other =
-    orElse t adoptRecord (finishesMade t) (orElse t cancelRecord (8 * finishesMade t) (orElse t askRecord (64 * finishesMade t) other))
+    takenOr t adoptRecord (finishesMade t) (takenOr t cancelRecord (8 * finishesMade t) (takenOr t askRecord (64 * finishesMade t) other))
 
 -- the record of the turn; none where the turn has no step
 unfoldable pub turnRecord : Plan → ℕ → List ℕ → List ℕ
-turnRecord p n t = cond (killDue p n t) (killRecord p) (repairOr t (orElse t deliverRecord 128 (actOf p t)))
+turnRecord p n t = cond (killDue p n t) (killRecord p) (repairOr t (takenOr t deliverRecord 128 (actOf p t)))

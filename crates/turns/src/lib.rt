@@ -8,7 +8,7 @@ ghost use mathlib.Core.Path.{_≡_};
 ghost use Prim.Native.Nat.{_≤_, _<_};
 ghost use Rattle.tables.specs.Layout.{Whole};
 ghost use Rattle.rules.specs.Step.{after};
-ghost use Rattle.turns.specs.Choice.{orElse};
+ghost use Rattle.turns.specs.Choice.{takenOr};
 ghost use Rattle.acts.specs.Acts.{nextAct, actOf};
 ghost use Rattle.turns.specs.Turn.{Playable, killRecord, killDue, repairOr, turnRecord};
 ghost use Rattle.turns.specs.Numbered.{recordsOf, mostOf};
@@ -66,7 +66,7 @@ fn numbered(kind: u8, i: usize) -> [u8; 4]
 // The lowest of n records of a kind that is taken.
 fn lowest_taken(t: &mut [u8], kind: u8, n: usize) -> Played
     requires { ⌜ n ≤ mostOf kind ⌝ }
-    ensures { λ r. ⌜ (r ≡ playedOn (now (t .entry)) (orElse (now (t .entry)) (recordsOf kind) n [])) × (now (t .exit) ≡ after (now (t .entry)) (orElse (now (t .entry)) (recordsOf kind) n [])) ⌝ }
+    ensures { λ r. ⌜ (r ≡ playedOn (now (t .entry)) (takenOr (now (t .entry)) (recordsOf kind) n [])) × (now (t .exit) ≡ after (now (t .entry)) (takenOr (now (t .entry)) (recordsOf kind) n [])) ⌝ }
 {
     let mut i: usize = 0;
     while i < n {

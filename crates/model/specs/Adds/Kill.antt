@@ -4,7 +4,7 @@ use mathlib.Core.Bool.{Bool, true, false, _&&_, not}
 use Prim.Native.Nat.{ℕ, suc, _+_, _*_, _≤_}
 use native.Mathlib.Omega.{arith}
 use lib.Dec.{eqb}
-use Rattle.model.specs.Base.{sum-add, sum-but, upd, upd-other, upd-cases, on, on-le, sum, sum-mono, sum-most, cond-cases, both}
+use Rattle.model.specs.Base.{sum-rise, sum-but, upd, upd-other, upd-cases, on, on-le, sum, sum-mono, sum-most, cond-cases, both}
 use Rattle.model.specs.State.{State}
 use Rattle.model.specs.Messages.{none, goesTo}
 use Rattle.model.specs.Effects.Kill.{losesFinish, emptyColumn, dueAfter, kill}
@@ -66,7 +66,7 @@ module _ (s : State) (p : ℕ) where
       (omega arith) (omega arith) (were-fresh f)
 
   books-add : booksWork (kill s p) ≤ booksWork s + suc (s .finishes .made) * (2 + 3 * s .places)
-  books-add = sum-add (suc (s .finishes .made)) (2 + 3 * s .places) (bookWork s) (bookWork (kill s p)) (λ f _. book-adds f)
+  books-add = sum-rise (suc (s .finishes .made)) (2 + 3 * s .places) (bookWork s) (bookWork (kill s p)) (λ f _. book-adds f)
 
   messages-fall : messageWork (kill s p) ≤ messageWork s
   messages-fall = sum-mono (s .slots) (λ k. way (kill s p .slot k .tag)) (λ k. way (s .slot k .tag))

@@ -79,10 +79,10 @@ sum-two n φ k l a b ne =
     omega (arith, sum-upd n (λ x v. v) φ k 0 a, sum-ge n (upd φ k 0) l b, upd-other φ k 0 l (λ q. ne (sym q)))
 
 -- terms that rise: each by at most c
-pub sum-add : (n c : ℕ) (φ ψ : ℕ → ℕ) → ((x : ℕ) → x < n → ψ x ≤ φ x + c) → sum n ψ ≤ sum n φ + n * c
+pub sum-rise : (n c : ℕ) (φ ψ : ℕ → ℕ) → ((x : ℕ) → x < n → ψ x ≤ φ x + c) → sum n ψ ≤ sum n φ + n * c
 unfolding sum
-sum-add zero c φ ψ h = omega arith
-sum-add (suc n) c φ ψ h = omega (arith, h n (omega arith), sum-add n c φ ψ (λ x l. h x (omega arith)))
+sum-rise zero c φ ψ h = omega arith
+sum-rise (suc n) c φ ψ h = omega (arith, h n (omega arith), sum-rise n c φ ψ (λ x l. h x (omega arith)))
 
 -- the term of k alone rises, by at most c
 pub sum-but : (n c : ℕ) (φ ψ : ℕ → ℕ) (k : ℕ) → ψ k ≤ φ k + c → ((x : ℕ) → x < n → (x ≡ k → ⊥) → ψ x ≤ φ x) → sum n ψ ≤ sum n φ + c

@@ -1,7 +1,7 @@
 use mathlib.Core.List.{[]}
 use Prim.Native.Nat.{_*_}
 use native.Mathlib.Omega.{arith}
-use Rattle.turns.specs.Choice.{orElse}
+use Rattle.turns.specs.Choice.{takenOr}
 use Rattle.turns.specs.Numbered.{recordsOf, mostOf}
 use Rattle.turns.proofs.Choice.{stops, goes-on}
 use Rattle.turns.proofs.Order.{kind-chooses, repair-is}
@@ -44,7 +44,7 @@ returns-2 c =
     let n = c .before .before .before .before .before .before .before .before .before .before .before .before .wide .result in
     rw (repair-is _ n (c .before .before .before .before .before .before .before .before .before .before .before .before .wide .ensures .0) [])
     (goes-on _ _ (kind-chooses 6 _ n) _ _ (c .before .before .before .before .before .before .before .before .before .before .lowest-taken .ensures) (c .before .before .before .before .before .before .if1 .left)
-    (λ t. orElse t (recordsOf 7) (8 * n) (orElse t (recordsOf 8) (64 * n) [])) _ _
+    (λ t. takenOr t (recordsOf 7) (8 * n) (takenOr t (recordsOf 8) (64 * n) [])) _ _
     (stops _ _ (kind-chooses 7 _ _) _ _ (c .before .before .before .before .lowest-taken2 .ensures) (c .if2 .taken) _))
 
 mul-lowest-taken-2 : tie.Need-mul-lowest-taken-2
@@ -62,8 +62,8 @@ returns-3 c =
     let n = c .before .before .before .before .before .before .before .before .before .before .before .before .before .before .before .before .wide .result in
     rw (repair-is _ n (c .before .before .before .before .before .before .before .before .before .before .before .before .before .before .before .before .wide .ensures .0) [])
     (goes-on _ _ (kind-chooses 6 _ n) _ _ (c .before .before .before .before .before .before .before .before .before .before .before .before .before .before .lowest-taken .ensures) (c .before .before .before .before .before .before .before .before .before .before .if1 .left)
-    (λ t. orElse t (recordsOf 7) (8 * n) (orElse t (recordsOf 8) (64 * n) [])) _ _
-    (goes-on _ _ (kind-chooses 7 _ _) _ _ (c .before .before .before .before .before .before .before .before .lowest-taken2 .ensures) (c .before .before .before .before .if2 .left) (λ t. orElse t (recordsOf 8) (64 * n) []) _ _ (c .before .before .lowest-taken3 .ensures)))
+    (λ t. takenOr t (recordsOf 7) (8 * n) (takenOr t (recordsOf 8) (64 * n) [])) _ _
+    (goes-on _ _ (kind-chooses 7 _ _) _ _ (c .before .before .before .before .before .before .before .before .lowest-taken2 .ensures) (c .before .before .before .before .if2 .left) (λ t. takenOr t (recordsOf 8) (64 * n) []) _ _ (c .before .before .lowest-taken3 .ensures)))
 
 pub repair-spec : {M : Type 1} → statement M
 repair-spec =

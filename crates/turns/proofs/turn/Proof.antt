@@ -2,7 +2,7 @@ use mathlib.Core.List.{List}
 use Prim.Native.Nat.{ℕ}
 use native.Mathlib.Omega.{arith}
 use Rattle.plan.specs.declared.Plan.{Plan}
-use Rattle.turns.specs.Choice.{orElse}
+use Rattle.turns.specs.Choice.{takenOr}
 use Rattle.acts.specs.Acts.{actOf}
 use Rattle.turns.specs.Turn.{repairOr, turnRecord}
 use Rattle.turns.specs.Numbered.{recordsOf, mostOf}
@@ -20,7 +20,7 @@ use Rattle.turns.proofs.repair.Reads as repair-reads
 
 -- what is left of a turn on tables t
 abbrev after-repair : Plan → List ℕ → List ℕ
-after-repair p t = orElse t (recordsOf 4) 128 (actOf p t)
+after-repair p t = takenOr t (recordsOf 4) 128 (actOf p t)
 
 abbrev after-kill : Plan → List ℕ → List ℕ
 after-kill p t = repairOr t (after-repair p t)
