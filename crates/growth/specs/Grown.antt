@@ -61,9 +61,6 @@ grown-first L w maker l e = record {
     whole : treeSize w L ≡ 1 + w * treeSize w (L - 1)
     whole = ap (treeSize w) (omega arith) ∙ tree-suc w (L - 1)
 
-pub grown-most : {L w : ℕ} {maker : ℕ → ℕ} {made : ℕ} → Grown L w maker made → made ≤ treeSize w L
-grown-most grown = omega (arith, grown .size)
-
 pub grown-room : {L w : ℕ} {maker : ℕ → ℕ} {made : ℕ} → Grown L w maker made → (k : ℕ) → 0 < k → k ≤ made → levelOf maker L k < L → childrenOf maker made k < w
     → made < treeSize w L
 grown-room grown zero z l d c = absurd (omega arith)
