@@ -5,23 +5,9 @@ use Rattle.actions.proofs.Records.{unnamed-says, unnamed-keeps}
 use borrow.Author.Needs.{needs}
 use Rattle.actions.proofs.act.Statement.{statement}
 use Rattle.actions.proofs.act.Tie as tie
-use Rattle.actions.proofs.act.Reads as reads
-use Rattle.actions.proofs.act.Lts as lts
-use Rattle.actions.proofs.begin_action.Reads as begin-action-reads
-use Rattle.actions.proofs.is_action.Reads as is-action-reads
-use Rattle.actions.proofs.tested_action.Reads as tested-action-reads
-
-is-action-requires : tie.Need-is-action-requires
-is-action-requires c κs = search needs
 
 returns : tie.Need-returns
 returns c = let n = named-by _ _ _ _ _ _ (c .before .is-action .ensures) (c .if1 .left) in (unnamed-says _ _ n, unnamed-keeps _ _ n)
-
-begin-action-requires : tie.Need-begin-action-requires
-begin-action-requires c κs = search needs
-
-same-length : tie.Need-same-length
-same-length c = search needs
 
 returns-2 : tie.Need-returns-2
 returns-2 c = rw (is-begin _ _ _ _ (named-by _ _ _ _ _ _ (c .before .before .before .before .before .before .is-action .ensures) (c .before .before .before .before .before .if1 .taken)) (c .before .before .before .before .if2 .taken)) (c .before .before .begin-action .ensures)
@@ -29,21 +15,7 @@ returns-2 c = rw (is-begin _ _ _ _ (named-by _ _ _ _ _ _ (c .before .before .bef
 tested-action-requires : tie.Need-tested-action-requires
 tested-action-requires c κs = let range = kind-range _ _ _ (sym (c .before .before .before .is-action .ensures) ∙ c .before .before .if1 .taken) in (c .before .before .before .before .before .pre, (named-by _ _ _ _ _ _ (c .before .before .before .is-action .ensures) (c .before .before .if1 .taken), (range .0, omega (arith, range .1, c .before .if2 .left))))
 
-same-length-2 : tie.Need-same-length-2
-same-length-2 c = search needs
-
-returns-3 : tie.Need-returns-3
-returns-3 c = search needs
-
 pub act-spec : {M : Type 1} → statement M
 act-spec =
-    tie.close
-    (tie.spec
-    is-action-requires
-    returns
-    begin-action-requires
-    same-length
-    returns-2
-    tested-action-requires
-    same-length-2
-    returns-3)
+    tie.close (tie.spec (λ c κs. search needs) returns (λ c κs. search needs) (λ c. search needs)
+    returns-2 tested-action-requires (λ c. search needs) (λ c. search needs))

@@ -5,19 +5,6 @@ use Rattle.actions.proofs.Records.{step-says, step-takes}
 use borrow.Author.Needs.{needs}
 use Rattle.actions.proofs.begin_action.Statement.{statement}
 use Rattle.actions.proofs.begin_action.Tie as tie
-use Rattle.actions.proofs.begin_action.Reads as reads
-use Rattle.actions.proofs.begin_action.Lts as lts
-use Rattle.answers.proofs.number_of.Reads as number-of-reads
-use Rattle.opening.proofs.begin_session.Reads as begin-session-reads
-
-begin-session-requires : tie.Need-begin-session-requires
-begin-session-requires c κs = search needs
-
-number-of-requires : tie.Need-number-of-requires
-number-of-requires c κs = search needs
-
-same-length : tie.Need-same-length
-same-length c = search needs
 
 returns : tie.Need-returns
 unfolding noAction unsound
@@ -25,4 +12,4 @@ returns c = (step-says _ (begin _) refl _ _ _ refl (c .number-of .ensures) (c .b
 
 pub begin-action-spec : {M : Type 1} → statement M
 begin-action-spec =
-    tie.close (tie.spec begin-session-requires number-of-requires same-length returns)
+    tie.close (tie.spec (λ c κs. search needs) (λ c κs. search needs) (λ c. search needs) returns)

@@ -4,12 +4,6 @@ use Rattle.actions.proofs.Named.{is-kill, is-adopt, is-cancel, is-ask}
 use borrow.Author.Needs.{needs}
 use Rattle.actions.proofs.loss_action.Statement.{statement}
 use Rattle.actions.proofs.loss_action.Tie as tie
-use Rattle.actions.proofs.loss_action.Reads as reads
-use Rattle.actions.proofs.loss_action.Lts as lts
-use Rattle.adopt.proofs.adopt_orphans.Reads as adopt-orphans-reads
-use Rattle.ask.proofs.ask_dropped.Reads as ask-dropped-reads
-use Rattle.cancel.proofs.cancel_column.Reads as cancel-column-reads
-use Rattle.kill.proofs.kill_place.Reads as kill-place-reads
 
 kill-place-requires : tie.Need-kill-place-requires
 kill-place-requires c κs = (c .before .before .before .pre .0, places-range _ (c .before .before .before .pre .1 .0) .1)
@@ -23,43 +17,20 @@ cancel-column-requires c κs = let s = c .before .before .before .pre .1 .0 in (
 ask-dropped-requires : tie.Need-ask-dropped-requires
 ask-dropped-requires c κs = let s = c .before .before .before .pre .1 .0 in (c .before .before .before .pre .0, (places-range _ s .1, finishes-most _ s))
 
-same-length : tie.Need-same-length
-same-length c = search needs
-
 returns : tie.Need-returns
 returns c = rw (is-kill _ _ _ _ (c .before .before .before .before .before .before .pre .1 .1 .0) (c .before .before .before .before .match .keys1)) (c .before .before .kill-place .ensures)
-
-same-length-2 : tie.Need-same-length-2
-same-length-2 c = search needs
 
 returns-2 : tie.Need-returns-2
 returns-2 c = rw (is-adopt _ _ _ _ (c .before .before .before .before .before .before .pre .1 .1 .0) (c .before .before .before .before .match .keys2)) (c .before .before .adopt-orphans .ensures)
 
-same-length-3 : tie.Need-same-length-3
-same-length-3 c = search needs
-
 returns-3 : tie.Need-returns-3
 returns-3 c = rw (is-cancel _ _ _ _ (c .before .before .before .before .before .before .pre .1 .1 .0) (c .before .before .before .before .match .keys3)) (c .before .before .cancel-column .ensures)
-
-same-length-4 : tie.Need-same-length-4
-same-length-4 c = search needs
 
 returns-4 : tie.Need-returns-4
 returns-4 c = rw (is-ask _ _ _ _ (c .before .before .before .before .before .before .pre .1 .1 .0) (omega (arith, c .before .before .before .before .before .before .pre .1 .1 .1 .0, c .before .before .before .before .before .before .pre .1 .1 .1 .1))) (c .before .before .ask-dropped .ensures)
 
 pub loss-action-spec : {M : Type 1} → statement M
 loss-action-spec =
-    tie.close
-    (tie.spec
-    kill-place-requires
-    adopt-orphans-requires
-    cancel-column-requires
-    ask-dropped-requires
-    same-length
-    returns
-    same-length-2
-    returns-2
-    same-length-3
-    returns-3
-    same-length-4
-    returns-4)
+    tie.close (tie.spec kill-place-requires adopt-orphans-requires cancel-column-requires
+    ask-dropped-requires (λ c. search needs) returns (λ c. search needs) returns-2
+    (λ c. search needs) returns-3 (λ c. search needs) returns-4)

@@ -6,9 +6,6 @@ use Rattle.acts.proofs.Acts.{children-none, children-more, children-don
 use borrow.Author.Needs.{needs}
 use Rattle.acts.proofs.children_of.Statement.{statement}
 use Rattle.acts.proofs.children_of.Tie as tie
-use Rattle.acts.proofs.children_of.Reads as reads
-use Rattle.acts.proofs.children_of.Lts as lts
-use Rattle.acts.proofs.child_one.Reads as child-one-reads
 
 abbrev Inv-loop : tie.InvT-loop
 Inv-loop t k n c₀ j₀ c j = (j ≤ n) × ((c ≤ j) × (c ≡ childrenOf (spawner t) j k))
@@ -19,18 +16,6 @@ abbrev μ-loop : tie.MeasureT-loop
 loop-holds : tie.Need-loop-holds Inv-loop μ-loop
 loop-holds c = (search needs, (search needs, children-none _ _))
 
-add-j : tie.Need-add-j Inv-loop μ-loop
-add-j c = search needs
-
-child-one-requires : tie.Need-child-one-requires Inv-loop μ-loop
-child-one-requires c κs = search needs
-
-add-c : tie.Need-add-c Inv-loop μ-loop
-add-c c = search needs
-
-loop-less : tie.Need-loop-less Inv-loop μ-loop
-loop-less c = search needs
-
 loop-again : tie.Need-loop-again Inv-loop μ-loop
 loop-again c = (search needs, (search needs, children-more _ _ _ _ _ (c .child-one .ensures .0) (c .before .before .loop .inv .1 .1)))
 
@@ -39,14 +24,5 @@ returns c = children-done _ _ _ _ _ (c .loop-test .left) (c .before .loop .inv .
 
 pub children-of-spec : {M : Type 1} → statement M
 children-of-spec =
-    tie.close
-    (tie.spec
-    Inv-loop
-    μ-loop
-    loop-holds
-    add-j
-    child-one-requires
-    add-c
-    loop-less
-    loop-again
-    returns)
+    tie.close (tie.spec Inv-loop μ-loop loop-holds (λ c. search needs) (λ c κs. search needs)
+    (λ c. search needs) (λ c. search needs) loop-again returns)

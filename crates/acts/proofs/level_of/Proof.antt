@@ -6,9 +6,6 @@ use Rattle.acts.proofs.Acts.{levelLeft, level-none, level-pass, level-s
 use borrow.Author.Needs.{needs}
 use Rattle.acts.proofs.level_of.Statement.{statement}
 use Rattle.acts.proofs.level_of.Tie as tie
-use Rattle.acts.proofs.level_of.Reads as reads
-use Rattle.acts.proofs.level_of.Lts as lts
-use Rattle.fields.proofs.task_byte.Reads as task-byte-reads
 
 abbrev Inv-loop : tie.InvT-loop
 Inv-loop t n k above₀ up₀ above up = (up ≤ n) × (levelLeft t n up above ≡ levelOf (spawner t) n k)
@@ -19,42 +16,16 @@ abbrev μ-loop : tie.MeasureT-loop
 loop-holds : tie.Need-loop-holds Inv-loop μ-loop
 loop-holds c = (search needs, level-none _ _ _)
 
-task-byte-requires : tie.Need-task-byte-requires Inv-loop μ-loop
-task-byte-requires c κs = search needs
-
-add-result : tie.Need-add-result Inv-loop μ-loop
-add-result c = search needs
-
 returns : tie.Need-returns Inv-loop μ-loop
 returns c = level-stop _ _ _ _ _ (c .before .before .before .loop .inv .1) _ (c .before .before .loop-test .taken) (c .before .task-byte .ensures) (c .if1 .taken)
 
-add-up : tie.Need-add-up Inv-loop μ-loop
-add-up c = search needs
-
-loop-less : tie.Need-loop-less Inv-loop μ-loop
-loop-less c = search needs
-
 loop-again : tie.Need-loop-again Inv-loop μ-loop
 loop-again c = (search needs, level-pass _ _ _ _ _ (c .before .before .before .loop .inv .1) _ (c .before .before .loop-test .taken) (c .before .task-byte .ensures) (c .if1 .left))
-
-add-result-2 : tie.Need-add-result-2 Inv-loop μ-loop
-add-result-2 c = search needs
 
 returns-2 : tie.Need-returns-2 Inv-loop μ-loop
 returns-2 c = level-done _ _ _ _ _ (c .before .loop .inv .1) (c .loop-test .left)
 
 pub level-of-spec : {M : Type 1} → statement M
 level-of-spec =
-    tie.close
-    (tie.spec
-    Inv-loop
-    μ-loop
-    loop-holds
-    task-byte-requires
-    add-result
-    returns
-    add-up
-    loop-less
-    loop-again
-    add-result-2
-    returns-2)
+    tie.close (tie.spec Inv-loop μ-loop loop-holds (λ c κs. search needs) (λ c. search needs)
+    returns (λ c. search needs) (λ c. search needs) loop-again (λ c. search needs) returns-2)

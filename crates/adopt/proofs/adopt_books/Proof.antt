@@ -8,10 +8,6 @@ use Rattle.adopt.proofs.Orphans.{books-more}
 use borrow.Author.Needs.{needs}
 use Rattle.adopt.proofs.adopt_books.Statement.{statement}
 use Rattle.adopt.proofs.adopt_books.Tie as tie
-use Rattle.adopt.proofs.adopt_books.Reads as reads
-use Rattle.adopt.proofs.adopt_books.Lts as lts
-use Rattle.adopt.proofs.adopt_book.Reads as adopt-book-reads
-use Rattle.tables.proofs.Tables.book.Reads as book-reads
 
 abbrev Inv-loop : tie.InvT-loop
 Inv-loop t₀ f j₀ t j = (j ≤ 32) × ((length t ≡ length t₀) × (t ≡ changeParts (adoptBook t₀ f) 144 1 j 2304 t₀))
@@ -22,46 +18,11 @@ abbrev μ-loop : tie.MeasureT-loop
 loop-holds : tie.Need-loop-holds Inv-loop μ-loop
 loop-holds c = (search needs, (search needs, search (needs, change-none)))
 
-add-book : tie.Need-add-book Inv-loop μ-loop
-add-book c = search needs
-
-book-requires : tie.Need-book-requires Inv-loop μ-loop
-book-requires c κs = search needs
-
-add-adopt-book : tie.Need-add-adopt-book Inv-loop μ-loop
-add-adopt-book c = search needs
-
-adopt-book-requires : tie.Need-adopt-book-requires Inv-loop μ-loop
-adopt-book-requires c κs = search needs
-
-add-j : tie.Need-add-j Inv-loop μ-loop
-add-j c = search needs
-
-loop-less : tie.Need-loop-less Inv-loop μ-loop
-loop-less c = search needs
-
 loop-again : tie.Need-loop-again Inv-loop μ-loop
 loop-again c = (search needs, (search needs, search (needs, books-more)))
 
-same-length : tie.Need-same-length Inv-loop μ-loop
-same-length c = search needs
-
-returns : tie.Need-returns Inv-loop μ-loop
-returns c = search (needs, change-done)
-
 pub adopt-books-spec : {M : Type 1} → statement M
 adopt-books-spec =
-    tie.close
-    (tie.spec
-    Inv-loop
-    μ-loop
-    loop-holds
-    add-book
-    book-requires
-    add-adopt-book
-    adopt-book-requires
-    add-j
-    loop-less
-    loop-again
-    same-length
-    returns)
+    tie.close (tie.spec Inv-loop μ-loop loop-holds (λ c. search needs) (λ c κs. search needs)
+    (λ c. search needs) (λ c κs. search needs) (λ c. search needs) (λ c. search needs) loop-again
+    (λ c. search needs) (λ c. search (needs, change-done)))

@@ -5,21 +5,6 @@ use Rattle.tables.specs.Walks.{every, someOf}
 use borrow.Author.Needs.{needs}
 use Rattle.cancel.proofs.sends_after.Statement.{statement}
 use Rattle.cancel.proofs.sends_after.Tie as tie
-use Rattle.cancel.proofs.sends_after.Reads as reads
-use Rattle.cancel.proofs.sends_after.Lts as lts
-use Rattle.cancel.proofs.book_closes_without.Reads as book-closes-without-reads
-use Rattle.closing.proofs.is_adopted.Reads as is-adopted-reads
-use Rattle.fields.proofs.home_dead.Reads as home-dead-reads
-use Rattle.tables.proofs.wide.Reads as wide-reads
-
-wide-requires : tie.Need-wide-requires
-wide-requires c κs = search needs
-
-wide-requires-2 : tie.Need-wide-requires-2
-wide-requires-2 c κs = search needs
-
-book-closes-without-requires : tie.Need-book-closes-without-requires
-book-closes-without-requires c κs = search needs
 
 returns : tie.Need-returns
 unfolding every someOf
@@ -27,18 +12,12 @@ returns c =
     was-false _ _ _ _ _ (rw (c .before .before .before .wide .ensures .0, c .before .before .wide2 .ensures .0) at (c .before .book-closes-without .ensures)) (c .if1 .left) refl
     ∙ sym (sends-told _ _ _ (c .before .before .before .before .before .pre .0) (c .before .before .before .before .before .pre .1 .0))
 
-is-adopted-requires : tie.Need-is-adopted-requires
-is-adopted-requires c κs = search needs
-
 returns-2 : tie.Need-returns-2
 unfolding every someOf
 returns-2 c =
     was-true _ _ _ _ _ (rw (c .before .before .before .before .before .wide .ensures .0, c .before .before .before .before .wide2 .ensures .0) at (c .before .before .before .book-closes-without .ensures)) (c .before .before .if1 .taken)
     (last _ _ (was-true _ _ _ _ _ (c .before .is-adopted .ensures) (c .if2 .taken) refl))
     ∙ sym (sends-told _ _ _ (c .before .before .before .before .before .before .before .pre .0) (c .before .before .before .before .before .before .before .pre .1 .0))
-
-home-dead-requires : tie.Need-home-dead-requires
-home-dead-requires c κs = search needs
 
 returns-3 : tie.Need-returns-3
 unfolding every someOf
@@ -56,14 +35,5 @@ returns-4 c =
 
 pub sends-after-spec : {M : Type 1} → statement M
 sends-after-spec =
-    tie.close
-    (tie.spec
-    wide-requires
-    wide-requires-2
-    book-closes-without-requires
-    returns
-    is-adopted-requires
-    returns-2
-    home-dead-requires
-    returns-3
-    returns-4)
+    tie.close (tie.spec (λ c κs. search needs) (λ c κs. search needs) (λ c κs. search needs) returns
+    (λ c κs. search needs) returns-2 (λ c κs. search needs) returns-3 returns-4)

@@ -3,13 +3,6 @@ use Rattle.tables.proofs.Tests.{was-true, was-false}
 use borrow.Author.Needs.{needs}
 use Rattle.cancel.proofs.slot_or_first.Statement.{statement}
 use Rattle.cancel.proofs.slot_or_first.Tie as tie
-use Rattle.cancel.proofs.slot_or_first.Reads as reads
-use Rattle.cancel.proofs.slot_or_first.Lts as lts
-use Rattle.messages.proofs.free_slot.Reads as free-slot-reads
-use Rattle.messages.proofs.slots_full.Reads as slots-full-reads
-
-slots-full-requires : tie.Need-slots-full-requires
-slots-full-requires c κs = search needs
 
 returns : tie.Need-returns
 returns c = (was-true _ _ _ _ _ (c .before .slots-full .ensures) (c .if1 .taken) refl, search needs)
@@ -21,4 +14,5 @@ returns-2 : tie.Need-returns-2
 returns-2 c = (was-false _ _ _ _ _ (c .before .before .slots-full .ensures) (c .before .if1 .left) (sym (c .free-slot .ensures .0)), c .free-slot .ensures .1)
 
 pub slot-or-first-spec : {M : Type 1} → statement M
-slot-or-first-spec = tie.close (tie.spec slots-full-requires returns free-slot-requires returns-2)
+slot-or-first-spec =
+    tie.close (tie.spec (λ c κs. search needs) returns free-slot-requires returns-2)

@@ -1,16 +1,6 @@
 use borrow.Author.Needs.{needs}
 use Rattle.counts.proofs.received_at.Statement.{statement}
 use Rattle.counts.proofs.received_at.Tie as tie
-use Rattle.counts.proofs.received_at.Reads as reads
-use Rattle.counts.proofs.received_at.Lts as lts
-use Rattle.counts.proofs.local_byte.Reads as local-byte-reads
-use Rattle.tables.proofs.wide.Reads as wide-reads
-
-wide-requires : tie.Need-wide-requires
-wide-requires c κs = search needs
-
-local-byte-requires : tie.Need-local-byte-requires
-local-byte-requires c κs = search needs
 
 returns : tie.Need-returns
 returns c =
@@ -20,4 +10,4 @@ returns c =
     )
 
 pub received-at-spec : {M : Type 1} → statement M
-received-at-spec = tie.close (tie.spec wide-requires local-byte-requires returns)
+received-at-spec = tie.close (tie.spec (λ c κs. search needs) (λ c κs. search needs) returns)

@@ -5,16 +5,6 @@ use mathlib.Core.Path.{sym, _∙_}
 use borrow.Author.Needs.{needs}
 use Rattle.deliver.proofs.deliver_message.Statement.{statement}
 use Rattle.deliver.proofs.deliver_message.Tie as tie
-use Rattle.deliver.proofs.deliver_message.Reads as reads
-use Rattle.deliver.proofs.deliver_message.Lts as lts
-use Rattle.deliver.proofs.deliver_apply.Reads as deliver-apply-reads
-use Rattle.deliver.proofs.deliver_refusal.Reads as deliver-refusal-reads
-
-deliver-refusal-requires : tie.Need-deliver-refusal-requires
-deliver-refusal-requires c κs = search needs
-
-same-length : tie.Need-same-length
-same-length c = search needs
 
 returns : tie.Need-returns
 returns c = (search (needs, is-refused), search (needs, unchanged))
@@ -22,19 +12,10 @@ returns c = (search (needs, is-refused), search (needs, unchanged))
 deliver-apply-requires : tie.Need-deliver-apply-requires
 deliver-apply-requires c κs = (c .before .before .before .before .before .pre .0, ((c .before .before .before .before .before .pre .1, slot-there _ _ (step-taken _ _ (sym (c .before .before .deliver-refusal .ensures) ∙ c .before .if1 .left) .there)), sym (c .before .before .deliver-refusal .ensures) ∙ c .before .if1 .left))
 
-same-length-2 : tie.Need-same-length-2
-same-length-2 c = search needs
-
 returns-2 : tie.Need-returns-2
 returns-2 c = (search (needs, is-done), search (needs, changed))
 
 pub deliver-message-spec : {M : Type 1} → statement M
 deliver-message-spec =
-    tie.close
-    (tie.spec
-    deliver-refusal-requires
-    same-length
-    returns
-    deliver-apply-requires
-    same-length-2
-    returns-2)
+    tie.close (tie.spec (λ c κs. search needs) (λ c. search needs) returns deliver-apply-requires
+    (λ c. search needs) returns-2)

@@ -7,21 +7,10 @@ use mathlib.Core.Path.{refl}
 use borrow.Author.Needs.{needs}
 use Rattle.deliver.proofs.deliver_refusal.Statement.{statement}
 use Rattle.deliver.proofs.deliver_refusal.Tie as tie
-use Rattle.deliver.proofs.deliver_refusal.Reads as reads
-use Rattle.deliver.proofs.deliver_refusal.Lts as lts
-use Rattle.deliver.proofs.says.Reads as says-reads
-use Rattle.tables.proofs.wide.Reads as wide-reads
-use Rattle.messages.proofs.slot_byte.Reads as slot-byte-reads
 
 returns : tie.Need-returns
 unfolding stepAnswer stepRefusals firstOf notThere wrongPlace notReady isEmpty mustWait noRoom unwanted deliverSays
 returns c = if-lt _ _ _ _ _ (c .if1 .taken) refl
-
-wide-requires : tie.Need-wide-requires
-wide-requires c κs = search needs
-
-slot-byte-requires : tie.Need-slot-byte-requires
-slot-byte-requires c κs = search needs
 
 returns-2 : tie.Need-returns-2
 unfolding stepAnswer stepRefusals firstOf notThere wrongPlace notReady isEmpty mustWait noRoom unwanted deliverSays
@@ -36,4 +25,5 @@ returns-3 c = if-ge _ _ _ _ _ (c .before .before .before .before .if1 .left) (wa
 
 pub deliver-refusal-spec : {M : Type 1} → statement M
 deliver-refusal-spec =
-    tie.close (tie.spec returns wide-requires slot-byte-requires returns-2 says-requires returns-3)
+    tie.close (tie.spec returns (λ c κs. search needs) (λ c κs. search needs) returns-2
+    says-requires returns-3)

@@ -6,38 +6,11 @@ use Rattle.rules.specs.Sent.{replySent}
 use borrow.Author.Needs.{needs}
 use Rattle.depart.proofs.transit.Statement.{statement}
 use Rattle.depart.proofs.transit.Tie as tie
-use Rattle.depart.proofs.transit.Reads as reads
-use Rattle.depart.proofs.transit.Lts as lts
-use Rattle.depart.proofs.count.Reads as count-reads
-use Rattle.fields.proofs.is_dead.Reads as is-dead-reads
-use Rattle.messages.proofs.put_message.Reads as put-message-reads
-
-is-dead-requires : tie.Need-is-dead-requires
-is-dead-requires c κs = search needs
-
-put-message-requires : tie.Need-put-message-requires
-put-message-requires c κs = search needs
-
-same-length : tie.Need-same-length
-same-length c = search needs
-
-returns : tie.Need-returns
-unfolding delivered deliverTransit replySent send bytesOf
-returns c = (
-  was-true _ _ _ _ _ (c .before .before .before .before .before .is-dead .ensures) (c .before .before .before .before .if1 .taken) (c .before .before .put-message .ensures),
-  was-true _ _ _ _ _ (c .before .before .before .before .before .is-dead .ensures) (c .before .before .before .before .if1 .taken) refl,
-)
 
 count-requires : tie.Need-count-requires
 count-requires c κs =
     let p = c .before .before .before .before .before .pre .1 .1 in
     (search needs, (p .0, p .1 (sym (c .before .before .is-dead .ensures) ∙ c .before .if1 .left)))
-
-put-message-requires-2 : tie.Need-put-message-requires-2
-put-message-requires-2 c κs = search needs
-
-same-length-2 : tie.Need-same-length-2
-same-length-2 c = search needs
 
 returns-2 : tie.Need-returns-2
 unfolding delivered deliverTransit replySent send bytesOf
@@ -47,14 +20,8 @@ returns-2 c = (
 )
 
 pub transit-spec : {M : Type 1} → statement M
+unfolding delivered deliverTransit replySent send bytesOf
 transit-spec =
-    tie.close
-    (tie.spec
-    is-dead-requires
-    put-message-requires
-    same-length
-    returns
-    count-requires
-    put-message-requires-2
-    same-length-2
+    tie.close (tie.spec (λ c κs. search needs) (λ c κs. search needs) (λ c. search needs)
+    (λ c. search was-true depth 20) count-requires (λ c κs. search needs) (λ c. search needs)
     returns-2)

@@ -6,26 +6,12 @@ use Rattle.tables.proofs.Tests.{was-true, was-false}
 use borrow.Author.Needs.{needs}
 use Rattle.ending.proofs.end_apply.Statement.{statement}
 use Rattle.ending.proofs.end_apply.Tie as tie
-use Rattle.ending.proofs.end_apply.Reads as reads
-use Rattle.ending.proofs.end_apply.Lts as lts
-
-task-byte-requires : tie.Need-task-byte-requires
-task-byte-requires c κs = search needs
-
-task-byte-requires-2 : tie.Need-task-byte-requires-2
-task-byte-requires-2 c κs = search needs
-
-is-main-requires : tie.Need-is-main-requires
-is-main-requires c κs = search needs
 
 end-main-requires : tie.Need-end-main-requires
 end-main-requires c κs = (
   c .before .before .before .before .before .before .before .before .before .pre .0,
   rw (c .before .before .before .before .before .before .task-byte .ensures) (main-room _ _ (c .before .before .before .before .before .before .before .before .before .pre .1 .1) (sym (c .before .before .is-main .ensures) ∙ c .before .if1 .taken)),
 )
-
-same-length : tie.Need-same-length
-same-length c = search needs
 
 returns : tie.Need-returns
 unfolding step endStep
@@ -37,13 +23,12 @@ end-other-requires c κs = let book = c .before .before .before .before .before 
     rw (c .before .before .before .before .before .before .task-byte .ensures, c .before .before .before .before .task-byte2 .ensures)
     ((c .before .before .before .before .before .before .before .before .before .pre .0, book), other-room _ _ (c .before .before .before .before .before .before .before .before .before .pre .1 .1) (sym (c .before .before .is-main .ensures) ∙ c .before .if1 .left))
 
-same-length-2 : tie.Need-same-length-2
-same-length-2 c = search needs
-
 returns-2 : tie.Need-returns-2
 unfolding step endStep
 returns-2 c = was-false _ _ _ _ _ (c .before .before .before .before .before .is-main .ensures) (c .before .before .before .before .if1 .left)
     (rw (c .before .before .end-other .ensures, c .before .before .before .before .before .before .before .task-byte2 .ensures, c .before .before .before .before .before .before .before .before .before .task-byte .ensures))
 
 pub end-apply-spec : {M : Type 1} → statement M
-end-apply-spec = tie.close (tie.spec task-byte-requires task-byte-requires-2 is-main-requires end-main-requires same-length returns end-other-requires same-length-2 returns-2)
+end-apply-spec =
+    tie.close (tie.spec (λ c κs. search needs) (λ c κs. search needs) (λ c κs. search needs)
+    end-main-requires (λ c. search needs) returns end-other-requires (λ c. search needs) returns-2)

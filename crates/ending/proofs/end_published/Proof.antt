@@ -2,23 +2,6 @@ use Rattle.rules.specs.End.{endPublished}
 use borrow.Author.Needs.{needs}
 use Rattle.ending.proofs.end_published.Statement.{statement}
 use Rattle.ending.proofs.end_published.Tie as tie
-use Rattle.ending.proofs.end_published.Reads as reads
-use Rattle.ending.proofs.end_published.Lts as lts
-
-one-at-requires : tie.Need-one-at-requires
-one-at-requires c κs = search needs
-
-put-status-requires : tie.Need-put-status-requires
-put-status-requires c κs = search needs
-
-put-finish-status-requires : tie.Need-put-finish-status-requires
-put-finish-status-requires c κs = search needs
-
-put-report-requires : tie.Need-put-report-requires
-put-report-requires c κs = search needs
-
-same-length : tie.Need-same-length
-same-length c = search needs
 
 returns : tie.Need-returns
 unfolding endPublished
@@ -30,4 +13,6 @@ returns c = rw (
 )
 
 pub end-published-spec : {M : Type 1} → statement M
-end-published-spec = tie.close (tie.spec one-at-requires put-status-requires put-finish-status-requires put-report-requires same-length returns)
+end-published-spec =
+    tie.close (tie.spec (λ c κs. search needs) (λ c κs. search needs) (λ c κs. search needs)
+    (λ c κs. search needs) (λ c. search needs) returns)

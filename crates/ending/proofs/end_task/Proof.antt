@@ -5,14 +5,9 @@ use mathlib.Core.Path.{sym, _∙_}
 use borrow.Author.Needs.{needs}
 use Rattle.ending.proofs.end_task.Statement.{statement}
 use Rattle.ending.proofs.end_task.Tie as tie
-use Rattle.ending.proofs.end_task.Reads as reads
-use Rattle.ending.proofs.end_task.Lts as lts
 
 end-refusal-requires : tie.Need-end-refusal-requires
 end-refusal-requires c κs = (c .before .before .pre .0, c .before .before .pre .1)
-
-same-length : tie.Need-same-length
-same-length c = search needs
 
 returns : tie.Need-returns
 returns c = (is-refused _ _ _ (c .before .end-refusal .ensures) (c .if1 .taken), unchanged _ _ _ (c .before .end-refusal .ensures) (c .if1 .taken))
@@ -23,9 +18,6 @@ sent-tag-requires c κs = (c .before .before .before .before .before .pre .0, c 
 end-apply-requires : tie.Need-end-apply-requires
 end-apply-requires c κs = (c .before .before .before .before .before .before .before .pre .0, (c .before .before .before .before .before .before .before .pre .1, sym (c .before .before .before .before .end-refusal .ensures) ∙ c .before .before .before .if1 .left))
 
-same-length-2 : tie.Need-same-length-2
-same-length-2 c = search needs
-
 returns-2 : tie.Need-returns-2
 returns-2 c = (
   is-done _ _ _ (c .before .before .before .before .before .before .before .end-refusal .ensures) _ (c .before .before .before .before .sent-tag .ensures) (c .before .before .before .before .before .before .if1 .left),
@@ -33,4 +25,6 @@ returns-2 c = (
 )
 
 pub end-task-spec : {M : Type 1} → statement M
-end-task-spec = tie.close (tie.spec end-refusal-requires same-length returns sent-tag-requires end-apply-requires same-length-2 returns-2)
+end-task-spec =
+    tie.close (tie.spec end-refusal-requires (λ c. search needs) returns sent-tag-requires
+    end-apply-requires (λ c. search needs) returns-2)

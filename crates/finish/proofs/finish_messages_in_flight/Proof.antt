@@ -2,18 +2,12 @@ use Rattle.finish.proofs.Entries.{no-reading, is-reading}
 use borrow.Author.Needs.{needs}
 use Rattle.finish.proofs.finish_messages_in_flight.Statement.{statement}
 use Rattle.finish.proofs.finish_messages_in_flight.Tie as tie
-use Rattle.finish.proofs.finish_messages_in_flight.Reads as reads
-use Rattle.finish.proofs.finish_messages_in_flight.Lts as lts
-use Rattle.messages.proofs.messages_in_flight.Reads as messages-in-flight-reads
 
 returns : tie.Need-returns
 returns c = no-reading _ _ (c .if1 .taken)
-
-messages-in-flight-requires : tie.Need-messages-in-flight-requires
-messages-in-flight-requires c κs = search needs
 
 returns-2 : tie.Need-returns-2
 returns-2 c = is-reading _ _ _ (c .before .if1 .left) (c .messages-in-flight .ensures)
 
 pub finish-messages-in-flight-spec : {M : Type 1} → statement M
-finish-messages-in-flight-spec = tie.close (tie.spec returns messages-in-flight-requires returns-2)
+finish-messages-in-flight-spec = tie.close (tie.spec returns (λ c κs. search needs) returns-2)

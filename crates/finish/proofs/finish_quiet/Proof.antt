@@ -2,18 +2,12 @@ use Rattle.finish.proofs.Entries.{no-reading, is-reading}
 use borrow.Author.Needs.{needs}
 use Rattle.finish.proofs.finish_quiet.Statement.{statement}
 use Rattle.finish.proofs.finish_quiet.Tie as tie
-use Rattle.finish.proofs.finish_quiet.Reads as reads
-use Rattle.finish.proofs.finish_quiet.Lts as lts
-use Rattle.finish.proofs.quiet_one.Reads as quiet-one-reads
 
 returns : tie.Need-returns
 returns c = no-reading _ _ (c .if1 .taken)
-
-quiet-one-requires : tie.Need-quiet-one-requires
-quiet-one-requires c κs = search needs
 
 returns-2 : tie.Need-returns-2
 returns-2 c = is-reading _ _ _ (c .before .if1 .left) (c .quiet-one .ensures)
 
 pub finish-quiet-spec : {M : Type 1} → statement M
-finish-quiet-spec = tie.close (tie.spec returns quiet-one-requires returns-2)
+finish-quiet-spec = tie.close (tie.spec returns (λ c κs. search needs) returns-2)

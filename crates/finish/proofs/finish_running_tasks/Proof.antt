@@ -2,18 +2,12 @@ use Rattle.finish.proofs.Entries.{no-reading, is-reading}
 use borrow.Author.Needs.{needs}
 use Rattle.finish.proofs.finish_running_tasks.Statement.{statement}
 use Rattle.finish.proofs.finish_running_tasks.Tie as tie
-use Rattle.finish.proofs.finish_running_tasks.Reads as reads
-use Rattle.finish.proofs.finish_running_tasks.Lts as lts
-use Rattle.messages.proofs.running_tasks.Reads as running-tasks-reads
 
 returns : tie.Need-returns
 returns c = no-reading _ _ (c .if1 .taken)
-
-running-tasks-requires : tie.Need-running-tasks-requires
-running-tasks-requires c κs = search needs
 
 returns-2 : tie.Need-returns-2
 returns-2 c = is-reading _ _ _ (c .before .if1 .left) (c .running-tasks .ensures)
 
 pub finish-running-tasks-spec : {M : Type 1} → statement M
-finish-running-tasks-spec = tie.close (tie.spec returns running-tasks-requires returns-2)
+finish-running-tasks-spec = tie.close (tie.spec returns (λ c κs. search needs) returns-2)

@@ -2,18 +2,12 @@ use Rattle.finish.proofs.Entries.{no-reading, is-reading}
 use borrow.Author.Needs.{needs}
 use Rattle.finish.proofs.finish_status.Statement.{statement}
 use Rattle.finish.proofs.finish_status.Tie as tie
-use Rattle.finish.proofs.finish_status.Reads as reads
-use Rattle.finish.proofs.finish_status.Lts as lts
-use Rattle.finish.proofs.status_of.Reads as status-of-reads
 
 returns : tie.Need-returns
 returns c = no-reading _ _ (c .if1 .taken)
-
-status-of-requires : tie.Need-status-of-requires
-status-of-requires c κs = search needs
 
 returns-2 : tie.Need-returns-2
 returns-2 c = is-reading _ _ _ (c .before .if1 .left) (c .status-of .ensures)
 
 pub finish-status-spec : {M : Type 1} → statement M
-finish-status-spec = tie.close (tie.spec returns status-of-requires returns-2)
+finish-status-spec = tie.close (tie.spec returns (λ c κs. search needs) returns-2)

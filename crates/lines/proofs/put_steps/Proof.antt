@@ -9,9 +9,6 @@ use Rattle.lines.proofs.Words.{lines-none, lines-start, lines-more, lin
 use borrow.Author.Needs.{needs}
 use Rattle.lines.proofs.put_steps.Statement.{statement}
 use Rattle.lines.proofs.put_steps.Tie as tie
-use Rattle.lines.proofs.put_steps.Reads as reads
-use Rattle.lines.proofs.put_steps.Lts as lts
-use Rattle.lines.proofs.put_step.Reads as put-step-reads
 
 abbrev Inv-loop : tie.InvT-loop
 Inv-loop out₀ log n i₀ e₀ out i e =
@@ -24,23 +21,8 @@ abbrev μ-loop : tie.MeasureT-loop
 loop-holds : tie.Need-loop-holds Inv-loop μ-loop
 loop-holds c = (search needs, (lines-none _ _, lines-start _))
 
-mul-put-step : tie.Need-mul-put-step Inv-loop μ-loop
-mul-put-step c = search needs
-
-put-step-requires : tie.Need-put-step-requires Inv-loop μ-loop
-put-step-requires c κs = search needs
-
-add-i : tie.Need-add-i Inv-loop μ-loop
-add-i c = search needs
-
-loop-less : tie.Need-loop-less Inv-loop μ-loop
-loop-less c = search needs
-
 loop-again : tie.Need-loop-again Inv-loop μ-loop
 loop-again c = (search needs, (search (needs, lines-more), search (needs, lines-end)))
-
-same-length : tie.Need-same-length Inv-loop μ-loop
-same-length c = search needs
 
 returns : tie.Need-returns Inv-loop μ-loop
 returns c =
@@ -49,15 +31,5 @@ returns c =
 
 pub put-steps-spec : {M : Type 1} → statement M
 put-steps-spec =
-    tie.close
-    (tie.spec
-    Inv-loop
-    μ-loop
-    loop-holds
-    mul-put-step
-    put-step-requires
-    add-i
-    loop-less
-    loop-again
-    same-length
-    returns)
+    tie.close (tie.spec Inv-loop μ-loop loop-holds (λ c. search needs) (λ c κs. search needs)
+    (λ c. search needs) (λ c. search needs) loop-again (λ c. search needs) returns)

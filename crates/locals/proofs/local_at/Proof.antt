@@ -2,17 +2,6 @@ use native.Mathlib.Omega.{arith}
 use borrow.Author.Needs.{needs}
 use Rattle.locals.proofs.local_at.Statement.{statement}
 use Rattle.locals.proofs.local_at.Tie as tie
-use Rattle.locals.proofs.local_at.Reads as reads
-use Rattle.locals.proofs.local_at.Lts as lts
-
-wide-requires : tie.Need-wide-requires
-wide-requires c κs = search needs
-
-wide-requires-2 : tie.Need-wide-requires-2
-wide-requires-2 c κs = search needs
-
-local-requires : tie.Need-local-requires
-local-requires c κs = search needs
 
 returns : tie.Need-returns
 returns c = (
@@ -21,4 +10,6 @@ returns c = (
 )
 
 pub local-at-spec : {M : Type 1} → statement M
-local-at-spec = tie.close (tie.spec wide-requires wide-requires-2 local-requires returns)
+local-at-spec =
+    tie.close (tie.spec (λ c κs. search needs) (λ c κs. search needs) (λ c κs. search needs)
+    returns)

@@ -3,18 +3,10 @@ use Rattle.rules.specs.End.{receivedRow}
 use borrow.Author.Needs.{needs}
 use Rattle.locals.proofs.received_row.Statement.{statement}
 use Rattle.locals.proofs.received_row.Tie as tie
-use Rattle.locals.proofs.received_row.Reads as reads
-use Rattle.locals.proofs.received_row.Lts as lts
-
-local-at-requires : tie.Need-local-at-requires
-local-at-requires c κs = search needs
-
-row-of-requires : tie.Need-row-of-requires
-row-of-requires c κs = search needs
 
 returns : tie.Need-returns
 unfolding receivedRow
 returns c = rw (c .row-of .ensures, c .before .local-at .ensures .0) (simp add-zero)
 
 pub received-row-spec : {M : Type 1} → statement M
-received-row-spec = tie.close (tie.spec local-at-requires row-of-requires returns)
+received-row-spec = tie.close (tie.spec (λ c κs. search needs) (λ c κs. search needs) returns)

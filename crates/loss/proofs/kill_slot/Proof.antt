@@ -5,27 +5,11 @@ use Rattle.rules.specs.Kill.{killSlot}
 use borrow.Author.Needs.{needs}
 use Rattle.loss.proofs.kill_slot.Statement.{statement}
 use Rattle.loss.proofs.kill_slot.Tie as tie
-use Rattle.loss.proofs.kill_slot.Reads as reads
-use Rattle.loss.proofs.kill_slot.Lts as lts
-use Rattle.tables.proofs.clear_part.Reads as clear-part-reads
-use Rattle.loss.proofs.goes_to.Reads as goes-to-reads
-
-goes-to-requires : tie.Need-goes-to-requires
-goes-to-requires c κs = search needs
-
-clear-part-requires : tie.Need-clear-part-requires
-clear-part-requires c κs = search needs
-
-same-length : tie.Need-same-length
-same-length c = search needs
 
 returns : tie.Need-returns
 unfolding killSlot
 returns c = let to = c .before .before .before .before .before .goes-to .ensures in
     (rw (← (to .0), eq-eqb _ _ (c .before .before .before .before .if1 .taken)) (c .before .before .clear-part .ensures), to .1)
-
-same-length-2 : tie.Need-same-length-2
-same-length-2 c = search needs
 
 returns-2 : tie.Need-returns-2
 unfolding killSlot
@@ -34,5 +18,5 @@ returns-2 c = let to = c .before .goes-to .ensures in
 
 pub kill-slot-spec : {M : Type 1} → statement M
 kill-slot-spec =
-    tie.close
-    (tie.spec goes-to-requires clear-part-requires same-length returns same-length-2 returns-2)
+    tie.close (tie.spec (λ c κs. search needs) (λ c κs. search needs) (λ c. search needs) returns
+    (λ c. search needs) returns-2)

@@ -7,36 +7,6 @@ use Rattle.loss.proofs.Rows.{task-test}
 use borrow.Author.Needs.{needs}
 use Rattle.loss.proofs.kill_task.Statement.{statement}
 use Rattle.loss.proofs.kill_task.Tie as tie
-use Rattle.loss.proofs.kill_task.Reads as reads
-use Rattle.loss.proofs.kill_task.Lts as lts
-use Rattle.loss.proofs.loses_task.Reads as loses-task-reads
-
-slice-read-loses-task : tie.Need-slice-read-loses-task
-slice-read-loses-task c = search needs
-
-add-loses-task : tie.Need-add-loses-task
-add-loses-task c = search needs
-
-slice-read-loses-task-2 : tie.Need-slice-read-loses-task-2
-slice-read-loses-task-2 c = search needs
-
-add-loses-task-2 : tie.Need-add-loses-task-2
-add-loses-task-2 c = search needs
-
-slice-read-loses-task-3 : tie.Need-slice-read-loses-task-3
-slice-read-loses-task-3 c = search needs
-
-loses-task-requires : tie.Need-loses-task-requires
-loses-task-requires c κs = search needs
-
-add-t : tie.Need-add-t
-add-t c = search needs
-
-slice-write-t : tie.Need-slice-write-t
-slice-write-t c = search needs
-
-same-length : tie.Need-same-length
-same-length c = search needs
 
 returns : tie.Need-returns
 unfolding killTask
@@ -48,16 +18,6 @@ returns-2 c = rw (task-test _ _ _, ← (c .before .loses-task .ensures), c .if1 
 
 pub kill-task-spec : {M : Type 1} → statement M
 kill-task-spec =
-    tie.close
-    (tie.spec
-    slice-read-loses-task
-    add-loses-task
-    slice-read-loses-task-2
-    add-loses-task-2
-    slice-read-loses-task-3
-    loses-task-requires
-    add-t
-    slice-write-t
-    same-length
-    returns
-    returns-2)
+    tie.close (tie.spec (λ c. search needs) (λ c. search needs) (λ c. search needs)
+    (λ c. search needs) (λ c. search needs) (λ c κs. search needs) (λ c. search needs)
+    (λ c. search needs) (λ c. search needs) returns returns-2)

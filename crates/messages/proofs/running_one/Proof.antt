@@ -4,14 +4,6 @@ use Rattle.rules.specs.Quiet.{isRunning}
 use borrow.Author.Needs.{needs}
 use Rattle.messages.proofs.running_one.Statement.{statement}
 use Rattle.messages.proofs.running_one.Tie as tie
-use Rattle.messages.proofs.running_one.Reads as reads
-use Rattle.messages.proofs.running_one.Lts as lts
-
-add-if1 : tie.Need-add-if1
-add-if1 c = search needs
-
-shared-slice-read-if1 : tie.Need-shared-slice-read-if1
-shared-slice-read-if1 c = search needs
 
 returns : tie.Need-returns
 unfolding isRunning
@@ -22,4 +14,4 @@ unfolding isRunning
 returns-2 c = (simp (getD-drop, ne-eqb _ _ (c .if1 .left)), search needs)
 
 pub running-one-spec : {M : Type 1} → statement M
-running-one-spec = tie.close (tie.spec add-if1 shared-slice-read-if1 returns returns-2)
+running-one-spec = tie.close (tie.spec (λ c. search needs) (λ c. search needs) returns returns-2)

@@ -3,18 +3,6 @@ use mathlib.Core.Path.{sym, _∙_}
 use borrow.Author.Needs.{needs}
 use Rattle.messages.proofs.slots_full.Statement.{statement}
 use Rattle.messages.proofs.slots_full.Tie as tie
-use Rattle.messages.proofs.slots_full.Reads as reads
-use Rattle.messages.proofs.slots_full.Lts as lts
-use Rattle.messages.proofs.lowest_empty.Reads as lowest-empty-reads
-
-lowest-empty-requires : tie.Need-lowest-empty-requires
-lowest-empty-requires c κs = search needs
-
-enum-told : tie.Need-enum-told
-enum-told c = search needs
-
-enum-told-2 : tie.Need-enum-told-2
-enum-told-2 c = search needs
 
 returns : tie.Need-returns
 returns c = sym (found-room _ _ (sym (c .before .before .lowest-empty .ensures) ∙ c .enum-told .given .1))
@@ -24,4 +12,5 @@ returns-2 c = sym (found-full _ (sym (c .before .before .lowest-empty .ensures) 
 
 pub slots-full-spec : {M : Type 1} → statement M
 slots-full-spec =
-    tie.close (tie.spec lowest-empty-requires enum-told enum-told-2 returns returns-2)
+    tie.close (tie.spec (λ c κs. search needs) (λ c. search needs) (λ c. search needs) returns
+    returns-2)

@@ -2,21 +2,9 @@ use Rattle.plan.proofs.Places.{word-past, word-spaced, word-not}
 use borrow.Author.Needs.{needs}
 use Rattle.plan.proofs.read_word.Statement.{statement}
 use Rattle.plan.proofs.read_word.Tie as tie
-use Rattle.plan.proofs.read_word.Reads as reads
-use Rattle.plan.proofs.read_word.Lts as lts
-use Rattle.plan.proofs.read_number.Reads as read-number-reads
-
-read-number-requires : tie.Need-read-number-requires
-read-number-requires c κs = search needs
 
 returns : tie.Need-returns
 returns c = word-past _ _ _ (c .before .read-number .ensures) (c .if1 .taken)
-
-shared-slice-read-if2 : tie.Need-shared-slice-read-if2
-shared-slice-read-if2 c = search needs
-
-add-t9 : tie.Need-add-t9
-add-t9 c = search needs
 
 returns-2 : tie.Need-returns-2
 returns-2 c = word-spaced _ _ _ (c .before .before .before .read-number .ensures) (c .before .before .if1 .left) (c .if2 .taken)
@@ -26,5 +14,5 @@ returns-3 c = word-not _ _ _ (c .before .before .before .read-number .ensures) (
 
 pub read-word-spec : {M : Type 1} → statement M
 read-word-spec =
-    tie.close
-    (tie.spec read-number-requires returns shared-slice-read-if2 add-t9 returns-2 returns-3)
+    tie.close (tie.spec (λ c κs. search needs) returns (λ c. search needs) (λ c. search needs)
+    returns-2 returns-3)

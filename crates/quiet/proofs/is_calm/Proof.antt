@@ -7,27 +7,14 @@ use Rattle.rules.specs.Quiet.{calmBook}
 use borrow.Author.Needs.{needs}
 use Rattle.quiet.proofs.is_calm.Statement.{statement}
 use Rattle.quiet.proofs.is_calm.Tie as tie
-use Rattle.quiet.proofs.is_calm.Reads as reads
-use Rattle.quiet.proofs.is_calm.Lts as lts
-use Rattle.quiet.proofs.owing.Reads as owing-reads
-use Rattle.quiet.proofs.repairs.Reads as repairs-reads
-
-shared-slice-read-if1 : tie.Need-shared-slice-read-if1
-shared-slice-read-if1 c = search needs
 
 returns : tie.Need-returns
 unfolding calmBook every
 returns c = simp (getD-drop, add-zero) (if-eq _ _ _ _ _ (c .if1 .taken) refl)
 
-repairs-requires : tie.Need-repairs-requires
-repairs-requires c κs = search needs
-
 returns-2 : tie.Need-returns-2
 unfolding calmBook every
 returns-2 c = simp (getD-drop, add-zero) (if-ne _ _ _ _ _ (c .before .before .if1 .left) (was-not _ _ _ _ _ (c .before .repairs .ensures) (c .if2 .taken) refl))
-
-owing-requires : tie.Need-owing-requires
-owing-requires c κs = search needs
 
 returns-3 : tie.Need-returns-3
 unfolding calmBook every
@@ -39,12 +26,5 @@ returns-4 c = simp (getD-drop, add-zero) (if-ne _ _ _ _ _ (c .before .before .be
 
 pub is-calm-spec : {M : Type 1} → statement M
 is-calm-spec =
-    tie.close
-    (tie.spec
-    shared-slice-read-if1
-    returns
-    repairs-requires
-    returns-2
-    owing-requires
-    returns-3
-    returns-4)
+    tie.close (tie.spec (λ c. search needs) returns (λ c κs. search needs) returns-2
+    (λ c κs. search needs) returns-3 returns-4)

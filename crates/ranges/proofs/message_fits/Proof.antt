@@ -5,32 +5,6 @@ use Rattle.ranges.proofs.Tags.{none-tag, waits-tag, moves-tag, dropped-
 use borrow.Author.Needs.{needs}
 use Rattle.ranges.proofs.message_fits.Statement.{statement}
 use Rattle.ranges.proofs.message_fits.Tie as tie
-use Rattle.ranges.proofs.message_fits.Reads as reads
-use Rattle.ranges.proofs.message_fits.Lts as lts
-use Rattle.ranges.proofs.dropped_fits.Reads as dropped-fits-reads
-use Rattle.ranges.proofs.ghost_fits.Reads as ghost-fits-reads
-use Rattle.ranges.proofs.moves_fits.Reads as moves-fits-reads
-use Rattle.ranges.proofs.release_fits.Reads as release-fits-reads
-use Rattle.ranges.proofs.report_fits.Reads as report-fits-reads
-use Rattle.ranges.proofs.waits_fits.Reads as waits-fits-reads
-
-report-fits-requires : tie.Need-report-fits-requires
-report-fits-requires c κs = search needs
-
-release-fits-requires : tie.Need-release-fits-requires
-release-fits-requires c κs = search needs
-
-ghost-fits-requires : tie.Need-ghost-fits-requires
-ghost-fits-requires c κs = search needs
-
-waits-fits-requires : tie.Need-waits-fits-requires
-waits-fits-requires c κs = search needs
-
-moves-fits-requires : tie.Need-moves-fits-requires
-moves-fits-requires c κs = search needs
-
-dropped-fits-requires : tie.Need-dropped-fits-requires
-dropped-fits-requires c κs = search needs
 
 returns : tie.Need-returns
 unfolding tagged
@@ -61,19 +35,6 @@ returns-8 c = λ counts. absurd (omega arith)
 
 pub message-fits-spec : {M : Type 1} → statement M
 message-fits-spec =
-    tie.close
-    (tie.spec
-    report-fits-requires
-    release-fits-requires
-    ghost-fits-requires
-    waits-fits-requires
-    moves-fits-requires
-    dropped-fits-requires
-    returns
-    returns-2
-    returns-3
-    returns-4
-    returns-5
-    returns-6
-    returns-7
-    returns-8)
+    tie.close (tie.spec (λ c κs. search needs) (λ c κs. search needs) (λ c κs. search needs)
+    (λ c κs. search needs) (λ c κs. search needs) (λ c κs. search needs) returns returns-2 returns-3
+    returns-4 returns-5 returns-6 returns-7 returns-8)

@@ -3,37 +3,10 @@ use Rattle.tables.proofs.Tests.{plain}
 use Rattle.rules.specs.Sound.{messageFits}
 use Rattle.ranges.proofs.moves_fits.Statement.{statement}
 use Rattle.ranges.proofs.moves_fits.Tie as tie
-use Rattle.ranges.proofs.moves_fits.Reads as reads
-use Rattle.ranges.proofs.moves_fits.Lts as lts
-
-returns : tie.Need-returns
-unfolding messageFits every
-returns c = search plain depth 20
-
-returns-2 : tie.Need-returns-2
-unfolding messageFits every
-returns-2 c = search plain depth 20
-
-returns-3 : tie.Need-returns-3
-unfolding messageFits every
-returns-3 c = search plain depth 20
-
-returns-4 : tie.Need-returns-4
-unfolding messageFits every
-returns-4 c = search plain depth 20
-
-returns-5 : tie.Need-returns-5
-unfolding messageFits every
-returns-5 c = search plain depth 20
-
-returns-6 : tie.Need-returns-6
-unfolding messageFits every
-returns-6 c = search plain depth 20
-
-returns-7 : tie.Need-returns-7
-unfolding messageFits every
-returns-7 c = search plain depth 20
 
 pub moves-fits-spec : {M : Type 1} → statement M
+unfolding messageFits every
 moves-fits-spec =
-    tie.close (tie.spec returns returns-2 returns-3 returns-4 returns-5 returns-6 returns-7)
+    tie.close (tie.spec (λ c. search plain depth 20) (λ c. search plain depth 20)
+    (λ c. search plain depth 20) (λ c. search plain depth 20) (λ c. search plain depth 20)
+    (λ c. search plain depth 20) (λ c. search plain depth 20))

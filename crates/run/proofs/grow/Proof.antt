@@ -6,10 +6,6 @@ use Rattle.run.proofs.Running.{Running, running-none, running-room, run
 use borrow.Author.Needs.{needs}
 use Rattle.run.proofs.grow.Statement.{statement}
 use Rattle.run.proofs.grow.Tie as tie
-use Rattle.run.proofs.grow.Reads as reads
-use Rattle.run.proofs.grow.Lts as lts
-use Rattle.run.proofs.next_step.Reads as next-step-reads
-use Rattle.run.proofs.note_step.Reads as note-step-reads
 
 abbrev Inv-loop : tie.InvT-loop
 Inv-loop t₀ log₀ p u₀ t log u = ((length t ≡ 15104) × (length log ≡ length log₀)) × Running p t₀ log₀ t log u
@@ -19,9 +15,6 @@ abbrev μ-loop : tie.MeasureT-loop
 
 loop-holds : tie.Need-loop-holds Inv-loop μ-loop
 loop-holds c = (search needs, running-none _ _ _)
-
-next-step-requires : tie.Need-next-step-requires Inv-loop μ-loop
-next-step-requires c κs = search needs
 
 note-step-requires : tie.Need-note-step-requires Inv-loop μ-loop
 note-step-requires c κs =
@@ -41,27 +34,11 @@ loop-again c = (
       _ _ (c .before .before .note-step .result) (c .before .before .before .before .before .before .before .before .next-step .ensures .1) (c .before .before .note-step .ensures .1) (c .before .before .note-step .ensures .0),
 )
 
-same-length : tie.Need-same-length Inv-loop μ-loop
-same-length c = search needs
-
-same-length-2 : tie.Need-same-length-2 Inv-loop μ-loop
-same-length-2 c = search needs
-
 returns : tie.Need-returns Inv-loop μ-loop
 returns c =
     running-ends (c .before .before .before .before .before .before .before .before .before .pre .1 .0) (c .before .before .before .before .before .before .loop .inv .0 .0) (c .before .before .before .before .before .before .loop .inv .1) (c .before .before .before .before .next-step .result) (c .before .before .before .before .next-step .ensures .0) (c .if1 .taken) _ (c .before .before .before .before .next-step .ensures .1)
 
 pub grow-spec : {M : Type 1} → statement M
 grow-spec =
-    tie.close
-    (tie.spec
-    Inv-loop
-    μ-loop
-    loop-holds
-    next-step-requires
-    note-step-requires
-    loop-less
-    loop-again
-    same-length
-    same-length-2
-    returns)
+    tie.close (tie.spec Inv-loop μ-loop loop-holds (λ c κs. search needs) note-step-requires
+    loop-less loop-again (λ c. search needs) (λ c. search needs) returns)

@@ -2,33 +2,6 @@ use Rattle.square.specs.Square.{liveOf}
 use borrow.Author.Needs.{needs}
 use Rattle.square.proofs.live_of.Statement.{statement}
 use Rattle.square.proofs.live_of.Tie as tie
-use Rattle.square.proofs.live_of.Reads as reads
-use Rattle.square.proofs.live_of.Lts as lts
-use Rattle.tables.proofs.row_of.Reads as row-of-reads
-
-row-of-requires : tie.Need-row-of-requires
-row-of-requires c κs = search needs
-
-row-of-requires-2 : tie.Need-row-of-requires-2
-row-of-requires-2 c κs = search needs
-
-row-of-requires-3 : tie.Need-row-of-requires-3
-row-of-requires-3 c κs = search needs
-
-row-of-requires-4 : tie.Need-row-of-requires-4
-row-of-requires-4 c κs = search needs
-
-row-of-requires-5 : tie.Need-row-of-requires-5
-row-of-requires-5 c κs = search needs
-
-row-of-requires-6 : tie.Need-row-of-requires-6
-row-of-requires-6 c κs = search needs
-
-row-of-requires-7 : tie.Need-row-of-requires-7
-row-of-requires-7 c κs = search needs
-
-row-of-requires-8 : tie.Need-row-of-requires-8
-row-of-requires-8 c κs = search needs
 
 returns : tie.Need-returns
 unfolding liveOf
@@ -45,14 +18,6 @@ returns c = rw (
 
 pub live-of-spec : {M : Type 1} → statement M
 live-of-spec =
-    tie.close
-    (tie.spec
-    row-of-requires
-    row-of-requires-2
-    row-of-requires-3
-    row-of-requires-4
-    row-of-requires-5
-    row-of-requires-6
-    row-of-requires-7
-    row-of-requires-8
-    returns)
+    tie.close (tie.spec (λ c κs. search needs) (λ c κs. search needs) (λ c κs. search needs)
+    (λ c κs. search needs) (λ c κs. search needs) (λ c κs. search needs) (λ c κs. search needs)
+    (λ c κs. search needs) returns)

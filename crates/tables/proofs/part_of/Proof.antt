@@ -6,20 +6,6 @@ use Rattle.tables.proofs.Writes.{part-lent, length-part}
 use borrow.Author.Needs.{needs}
 use Rattle.tables.proofs.part_of.Statement.{statement}
 use Rattle.tables.proofs.part_of.Tie as tie
-use Rattle.tables.proofs.part_of.Reads as reads
-use Rattle.tables.proofs.part_of.Lts as lts
-
-add-e : tie.Need-add-e
-add-e c = search needs
-
-sub-result : tie.Need-sub-result
-sub-result c = search needs
-
-part-result-start : tie.Need-part-result-start
-part-result-start c = search needs
-
-part-result-end : tie.Need-part-result-end
-part-result-end c = search needs
 
 returns : tie.Need-returns
 returns c =
@@ -30,4 +16,6 @@ returns c =
     (lent, ap length lent ∙ length-part t a n (c .before .pre))
 
 pub part-of-spec : {M : Type 1} → statement M
-part-of-spec = tie.close (tie.spec add-e sub-result part-result-start part-result-end returns)
+part-of-spec =
+    tie.close (tie.spec (λ c. search needs) (λ c. search needs) (λ c. search needs)
+    (λ c. search needs) returns)

@@ -3,15 +3,6 @@ use Rattle.tables.proofs.Bits.{clear-sub, shift-one}
 use borrow.Author.Needs.{needs}
 use Rattle.tables.proofs.without_mark.Statement.{statement}
 use Rattle.tables.proofs.without_mark.Tie as tie
-use Rattle.tables.proofs.without_mark.Reads as reads
-use Rattle.tables.proofs.without_mark.Lts as lts
-use Rattle.tables.proofs.with_mark.Reads as with-mark-reads
-
-with-mark-requires : tie.Need-with-mark-requires
-with-mark-requires c κs = search needs
-
-shl-result : tie.Need-shl-result
-shl-result c = search needs
 
 sub-result : tie.Need-sub-result
 sub-result c = omega (arith, shift-one _ (c .before .pre), clear-sub (c .before .args .m) _ (c .before .pre), c .with-mark .ensures)
@@ -20,4 +11,5 @@ returns : tie.Need-returns
 returns c = omega (arith, shift-one _ (c .before .pre), clear-sub (c .before .args .m) _ (c .before .pre), c .with-mark .ensures)
 
 pub without-mark-spec : {M : Type 1} → statement M
-without-mark-spec = tie.close (tie.spec with-mark-requires shl-result sub-result returns)
+without-mark-spec =
+    tie.close (tie.spec (λ c κs. search needs) (λ c. search needs) sub-result returns)

@@ -3,11 +3,6 @@ use Rattle.tags.proofs.Laws.{tag-1, tag-3, tag-7, tag-9, tag-11, kept, 
 use mathlib.Core.Path.{sym, _∙_}
 use Rattle.tags.proofs.is_discarded.Statement.{statement}
 use Rattle.tags.proofs.is_discarded.Tie as tie
-use Rattle.tags.proofs.is_discarded.Reads as reads
-use Rattle.tags.proofs.is_discarded.Lts as lts
-use Rattle.counts.proofs.book_absent.Reads as book-absent-reads
-use Rattle.tags.proofs.is_gone.Reads as is-gone-reads
-use Rattle.fields.proofs.home_dead.Reads as home-dead-reads
 
 home-dead-requires : tie.Need-home-dead-requires
 home-dead-requires c κs = c .before .before .pre .0
@@ -49,16 +44,5 @@ returns-6 c = discarded-at _ _ _ (c .before .before .pre .1 .1) _ (sym (kept _ _
 
 pub is-discarded-spec : {M : Type 1} → statement M
 is-discarded-spec =
-    tie.close
-    (tie.spec
-    home-dead-requires
-    is-gone-requires
-    is-gone-requires-2
-    book-absent-requires
-    is-gone-requires-3
-    returns
-    returns-2
-    returns-3
-    returns-4
-    returns-5
-    returns-6)
+    tie.close (tie.spec home-dead-requires is-gone-requires is-gone-requires-2 book-absent-requires
+    is-gone-requires-3 returns returns-2 returns-3 returns-4 returns-5 returns-6)

@@ -3,18 +3,6 @@ use Rattle.tags.proofs.Laws.{tag-1, tag-2, tag-3, tag-4, tag-5, tag-6, 
 use mathlib.Core.Path.{sym, _∙_}
 use Rattle.tags.proofs.says_tag.Statement.{statement}
 use Rattle.tags.proofs.says_tag.Tie as tie
-use Rattle.tags.proofs.says_tag.Reads as reads
-use Rattle.tags.proofs.says_tag.Lts as lts
-use Rattle.wanted.proofs.count_dropped_says.Reads as count-dropped-says-reads
-use Rattle.wanted.proofs.dropped_says.Reads as dropped-says-reads
-use Rattle.wanted.proofs.ghost_ended_says.Reads as ghost-ended-says-reads
-use Rattle.wanted.proofs.granted_says.Reads as granted-says-reads
-use Rattle.wanted.proofs.publish_says.Reads as publish-says-reads
-use Rattle.wanted.proofs.published_says.Reads as published-says-reads
-use Rattle.wanted.proofs.release_says.Reads as release-says-reads
-use Rattle.wanted.proofs.report_says.Reads as report-says-reads
-use Rattle.wanted.proofs.task_says.Reads as task-says-reads
-use Rattle.wanted.proofs.transit_says.Reads as transit-says-reads
 
 publish-says-requires : tie.Need-publish-says-requires
 publish-says-requires c κs = (c .before .before .pre .0, publish-in _ _ (c .before .before .pre .1 .0) _ _ (c .before .before .pre .1 .1 ∙ tag-1 _ _ _ _ _ _ _ (c .match .keys1)))
@@ -87,28 +75,8 @@ returns-12 c = says-at _ _ _ (c .before .before .pre .1 .1 ∙ tag-rest _ _ _ _ 
 
 pub says-tag-spec : {M : Type 1} → statement M
 says-tag-spec =
-    tie.close
-    (tie.spec
-    publish-says-requires
-    published-says-requires
-    transit-says-requires
-    granted-says-requires
-    granted-says-requires-2
-    task-says-requires
-    report-says-requires
-    release-says-requires
-    ghost-ended-says-requires
-    count-dropped-says-requires
-    dropped-says-requires
-    returns
-    returns-2
-    returns-3
-    returns-4
-    returns-5
-    returns-6
-    returns-7
-    returns-8
-    returns-9
-    returns-10
-    returns-11
-    returns-12)
+    tie.close (tie.spec publish-says-requires published-says-requires transit-says-requires
+    granted-says-requires granted-says-requires-2 task-says-requires report-says-requires
+    release-says-requires ghost-ended-says-requires count-dropped-says-requires
+    dropped-says-requires returns returns-2 returns-3 returns-4 returns-5 returns-6 returns-7
+    returns-8 returns-9 returns-10 returns-11 returns-12)

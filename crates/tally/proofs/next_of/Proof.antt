@@ -3,15 +3,10 @@ use Rattle.tally.specs.Tally.{next}
 use borrow.Author.Needs.{needs}
 use Rattle.tally.proofs.next_of.Statement.{statement}
 use Rattle.tally.proofs.next_of.Tie as tie
-use Rattle.tally.proofs.next_of.Reads as reads
-use Rattle.tally.proofs.next_of.Lts as lts
 
 returns : tie.Need-returns
 unfolding next
 returns c = rw (c .before .if1 .taken, eq-eqb _ _ (c .if2 .taken))
-
-add-result : tie.Need-add-result
-add-result c = search needs
 
 returns-2 : tie.Need-returns-2
 unfolding next
@@ -22,4 +17,4 @@ unfolding next
 returns-3 c = rw (c .if1 .left)
 
 pub next-of-spec : {M : Type 1} → statement M
-next-of-spec = tie.close (tie.spec returns add-result returns-2 returns-3)
+next-of-spec = tie.close (tie.spec returns (λ c. search needs) returns-2 returns-3)

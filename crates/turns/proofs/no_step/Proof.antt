@@ -2,8 +2,6 @@ use mathlib.Core.Path.{refl}
 use Rattle.turns.specs.Played.{noStep}
 use Rattle.turns.proofs.no_step.Statement.{statement}
 use Rattle.turns.proofs.no_step.Tie as tie
-use Rattle.turns.proofs.no_step.Reads as reads
-use Rattle.turns.proofs.no_step.Lts as lts
 
 returns : tie.Need-returns
 unfolding noStep

@@ -4,8 +4,6 @@ use Rattle.turns.proofs.Records.{is-deliver, is-adopt, is-cancel, is-as
 use borrow.Author.Needs.{needs}
 use Rattle.turns.proofs.numbered.Statement.{statement}
 use Rattle.turns.proofs.numbered.Tie as tie
-use Rattle.turns.proofs.numbered.Reads as reads
-use Rattle.turns.proofs.numbered.Lts as lts
 
 cast-t4 : tie.Need-cast-t4
 unfolding mostOf
@@ -19,27 +17,12 @@ cast-t6 : tie.Need-cast-t6
 unfolding mostOf
 cast-t6 c = let h = rw (c .match .keys2) at (c .before .pre) in record { fits = omega arith }
 
-add-t8 : tie.Need-add-t8
-add-t8 c = search needs
-
 cast-t9 : tie.Need-cast-t9
 unfolding mostOf
 cast-t9 c = let h = rw (c .match .keys3) at (c .before .pre) in record { fits = omega arith }
 
-cast-t11 : tie.Need-cast-t11
-cast-t11 c = search needs
-
-add-t13 : tie.Need-add-t13
-add-t13 c = search needs
-
 cast-t14 : tie.Need-cast-t14
 cast-t14 c = let h = ask-most _ _ (c .match .rest .0 .0 .1) (c .match .rest .0 .1) (c .match .rest .1) (c .before .pre) in record { fits = omega arith }
-
-cast-t17 : tie.Need-cast-t17
-cast-t17 c = search needs
-
-cast-t19 : tie.Need-cast-t19
-cast-t19 c = search needs
 
 returns : tie.Need-returns
 returns c = rw (c .match .keys1) (is-deliver _)
@@ -55,19 +38,6 @@ returns-4 c = is-ask _ _ (c .match .rest .0 .0 .1) (c .match .rest .0 .1) (c .ma
 
 pub numbered-spec : {M : Type 1} → statement M
 numbered-spec =
-    tie.close
-    (tie.spec
-    cast-t4
-    add-t5
-    cast-t6
-    add-t8
-    cast-t9
-    cast-t11
-    add-t13
-    cast-t14
-    cast-t17
-    cast-t19
-    returns
-    returns-2
-    returns-3
+    tie.close (tie.spec cast-t4 add-t5 cast-t6 (λ c. search needs) cast-t9 (λ c. search needs)
+    (λ c. search needs) cast-t14 (λ c. search needs) (λ c. search needs) returns returns-2 returns-3
     returns-4)

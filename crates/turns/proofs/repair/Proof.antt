@@ -8,36 +8,17 @@ use Rattle.turns.proofs.Order.{kind-chooses, repair-is}
 use borrow.Author.Needs.{needs}
 use Rattle.turns.proofs.repair.Statement.{statement}
 use Rattle.turns.proofs.repair.Tie as tie
-use Rattle.turns.proofs.repair.Reads as reads
-use Rattle.turns.proofs.repair.Lts as lts
-use Rattle.tables.proofs.wide.Reads as wide-reads
-use Rattle.turns.proofs.lowest_taken.Reads as lowest-taken-reads
-
-slice-read-wide : tie.Need-slice-read-wide
-slice-read-wide c = search needs
-
-wide-requires : tie.Need-wide-requires
-wide-requires c κs = search needs
 
 lowest-taken-requires : tie.Need-lowest-taken-requires
 unfolding mostOf
 lowest-taken-requires c κs = omega (arith, c .before .wide .ensures .1)
 
-same-length : tie.Need-same-length
-same-length c = search needs
-
 returns : tie.Need-returns
 returns c = rw (repair-is _ _ (c .before .before .before .before .before .before .wide .ensures .0) []) (stops _ _ (kind-chooses 6 _ _) _ _ (c .before .before .before .before .lowest-taken .ensures) (c .if1 .taken) _)
-
-mul-lowest-taken : tie.Need-mul-lowest-taken
-mul-lowest-taken c = search needs
 
 lowest-taken-requires-2 : tie.Need-lowest-taken-requires-2
 unfolding mostOf
 lowest-taken-requires-2 c κs = omega (arith, c .before .before .before .before .before .before .before .wide .ensures .1)
-
-same-length-2 : tie.Need-same-length-2
-same-length-2 c = search needs
 
 returns-2 : tie.Need-returns-2
 returns-2 c =
@@ -47,15 +28,9 @@ returns-2 c =
     (λ t. takenOr t (recordsOf 7) (8 * n) (takenOr t (recordsOf 8) (64 * n) [])) _ _
     (stops _ _ (kind-chooses 7 _ _) _ _ (c .before .before .before .before .lowest-taken2 .ensures) (c .if2 .taken) _))
 
-mul-lowest-taken-2 : tie.Need-mul-lowest-taken-2
-mul-lowest-taken-2 c = search needs
-
 lowest-taken-requires-3 : tie.Need-lowest-taken-requires-3
 unfolding mostOf
 lowest-taken-requires-3 c κs = omega (arith, c .before .before .before .before .before .before .before .before .before .before .before .before .before .wide .ensures .1)
-
-same-length-3 : tie.Need-same-length-3
-same-length-3 c = search needs
 
 returns-3 : tie.Need-returns-3
 returns-3 c =
@@ -67,18 +42,6 @@ returns-3 c =
 
 pub repair-spec : {M : Type 1} → statement M
 repair-spec =
-    tie.close
-    (tie.spec
-    slice-read-wide
-    wide-requires
-    lowest-taken-requires
-    same-length
-    returns
-    mul-lowest-taken
-    lowest-taken-requires-2
-    same-length-2
-    returns-2
-    mul-lowest-taken-2
-    lowest-taken-requires-3
-    same-length-3
-    returns-3)
+    tie.close (tie.spec (λ c. search needs) (λ c κs. search needs) lowest-taken-requires
+    (λ c. search needs) returns (λ c. search needs) lowest-taken-requires-2 (λ c. search needs)
+    returns-2 (λ c. search needs) lowest-taken-requires-3 (λ c. search needs) returns-3)

@@ -11,12 +11,6 @@ use Rattle.turns.proofs.Order.{kind-chooses, repair-chooses, kill-choos
 use borrow.Author.Needs.{needs}
 use Rattle.turns.proofs.turn.Statement.{statement}
 use Rattle.turns.proofs.turn.Tie as tie
-use Rattle.turns.proofs.turn.Reads as reads
-use Rattle.turns.proofs.turn.Lts as lts
-use Rattle.turns.proofs.act.Reads as act-reads
-use Rattle.turns.proofs.due_kill.Reads as due-kill-reads
-use Rattle.turns.proofs.lowest_taken.Reads as lowest-taken-reads
-use Rattle.turns.proofs.repair.Reads as repair-reads
 
 -- what is left of a turn on tables t
 abbrev after-repair : Plan → List ℕ → List ℕ
@@ -25,21 +19,9 @@ after-repair p t = takenOr t (recordsOf 4) 128 (actOf p t)
 abbrev after-kill : Plan → List ℕ → List ℕ
 after-kill p t = repairOr t (after-repair p t)
 
-due-kill-requires : tie.Need-due-kill-requires
-due-kill-requires c κs = search needs
-
-same-length : tie.Need-same-length
-same-length c = search needs
-
 returns : tie.Need-returns
 unfolding turnRecord recordsOf
 returns c = stops _ _ (kill-chooses _ _ _) _ _ (c .before .before .before .before .due-kill .ensures) (c .if1 .taken) _
-
-repair-requires : tie.Need-repair-requires
-repair-requires c κs = search needs
-
-same-length-2 : tie.Need-same-length-2
-same-length-2 c = search needs
 
 returns-2 : tie.Need-returns-2
 unfolding turnRecord recordsOf
@@ -51,9 +33,6 @@ lowest-taken-requires : tie.Need-lowest-taken-requires
 unfolding mostOf
 lowest-taken-requires c κs = omega arith
 
-same-length-3 : tie.Need-same-length-3
-same-length-3 c = search needs
-
 returns-3 : tie.Need-returns-3
 unfolding turnRecord recordsOf
 returns-3 c =
@@ -64,9 +43,6 @@ returns-3 c =
 act-requires : tie.Need-act-requires
 act-requires c κs = (omega (arith, c .before .before .before .before .t3 .given, c .before .before .before .before .before .before .before .before .before .before .t2 .given, c .before .before .before .before .before .before .before .before .before .before .before .before .before .before .before .before .t .given, c .before .before .before .before .before .before .before .before .before .before .before .before .before .before .before .before .before .before .before .before .pre .0), c .before .before .before .before .before .before .before .before .before .before .before .before .before .before .before .before .before .before .before .before .pre .1)
 
-same-length-4 : tie.Need-same-length-4
-same-length-4 c = search needs
-
 returns-4 : tie.Need-returns-4
 unfolding turnRecord recordsOf
 returns-4 c =
@@ -76,17 +52,6 @@ returns-4 c =
 
 pub turn-spec : {M : Type 1} → statement M
 turn-spec =
-    tie.close
-    (tie.spec
-    due-kill-requires
-    same-length
-    returns
-    repair-requires
-    same-length-2
-    returns-2
-    lowest-taken-requires
-    same-length-3
-    returns-3
-    act-requires
-    same-length-4
-    returns-4)
+    tie.close (tie.spec (λ c κs. search needs) (λ c. search needs) returns (λ c κs. search needs)
+    (λ c. search needs) returns-2 lowest-taken-requires (λ c. search needs) returns-3 act-requires
+    (λ c. search needs) returns-4)

@@ -1,57 +1,12 @@
-use mathlib.Core.Path.{refl}
 use Rattle.tables.proofs.Tests.{was-true, was-false}
 use Rattle.wanted.proofs.Tags.{says-dropped}
 use borrow.Author.Needs.{needs}
 use Rattle.wanted.proofs.dropped_says.Statement.{statement}
 use Rattle.wanted.proofs.dropped_says.Tie as tie
-use Rattle.wanted.proofs.dropped_says.Reads as reads
-use Rattle.wanted.proofs.dropped_says.Lts as lts
-use Rattle.counts.proofs.book_absent.Reads as book-absent-reads
-use Rattle.fields.proofs.is_dead.Reads as is-dead-reads
-use Rattle.wanted.proofs.live_covers.Reads as live-covers-reads
-
-is-dead-requires : tie.Need-is-dead-requires
-is-dead-requires c κs = search needs
-
-returns : tie.Need-returns
-returns c =
-    rw says-dropped
-    (was-true _ _ _ _ _ (c .before .is-dead .ensures) (c .if1 .taken) refl)
-
-book-absent-requires : tie.Need-book-absent-requires
-book-absent-requires c κs = search needs
-
-returns-2 : tie.Need-returns-2
-returns-2 c =
-    rw says-dropped
-    (was-false _ _ _ _ _ (c .before .before .before .is-dead .ensures) (c .before .before .if1 .left)
-    (was-true _ _ _ _ _ (c .before .book-absent .ensures) (c .if2 .taken) refl))
-
-live-covers-requires : tie.Need-live-covers-requires
-live-covers-requires c κs = search needs
-
-returns-3 : tie.Need-returns-3
-returns-3 c =
-    rw says-dropped
-    (was-false _ _ _ _ _ (c .before .before .before .before .before .is-dead .ensures) (c .before .before .before .before .if1 .left)
-    (was-false _ _ _ _ _ (c .before .before .before .book-absent .ensures) (c .before .before .if2 .left)
-    (was-false _ _ _ _ _ (c .before .live-covers .ensures) (c .if3 .left) refl)))
-
-returns-4 : tie.Need-returns-4
-returns-4 c =
-    rw says-dropped
-    (was-false _ _ _ _ _ (c .before .before .before .before .before .is-dead .ensures) (c .before .before .before .before .if1 .left)
-    (was-false _ _ _ _ _ (c .before .before .before .book-absent .ensures) (c .before .before .if2 .left)
-    (was-true _ _ _ _ _ (c .before .live-covers .ensures) (c .if3 .taken) refl)))
 
 pub dropped-says-spec : {M : Type 1} → statement M
 dropped-says-spec =
-    tie.close
-    (tie.spec
-    is-dead-requires
-    returns
-    book-absent-requires
-    returns-2
-    live-covers-requires
-    returns-3
-    returns-4)
+    tie.close (tie.spec (λ c κs. search needs) (λ c. rw says-dropped (search was-true depth 20))
+    (λ c κs. search needs) (λ c. rw says-dropped (search (was-false, was-true) depth 20))
+    (λ c κs. search needs) (λ c. rw says-dropped (search was-false depth 20))
+    (λ c. rw says-dropped (search (was-false, was-true) depth 20)))
