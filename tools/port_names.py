@@ -44,7 +44,13 @@ LABELS = [
     (r"^home t\.old f < 8$", "home"),
     (r"≤ 15104$|^schedule_len|^\(length schedule", "inside"),
 ]
-OVERRIDE = {"bit-or": "bit_at-bit_or"}
+OVERRIDE = {
+    "bit-or": "bit_at-bit_or",
+    "climb-goes-on": "climb_goes_on",
+    "is-home-dead": "is_home_dead",
+    "no-answer-lost": "no_answer_lost",
+    "read-task-at": "read_task_at",
+}
 AUTOMATIC = re.compile(r"^(le_\w|\w+_bound(_2)?|\w+_value(_2)?|\w+_after|value|whole)$")
 
 
@@ -53,16 +59,36 @@ def read(p):
         return f.read()
 
 
+def of_function(p):
+    """Whether a proof file is of one function, whose steps and goals Rattle names."""
+    return "/proofs/" in p and os.path.basename(p) in ("Proof.antt", "Answers.antt", "Invariants.antt")
+
+
 def defined():
-    own, public = set(), set()
-    for p in glob.glob("crates/*/specs/*.antt") + glob.glob("crates/*/proofs/*.antt"):
+    """All names of the repository; those of its specs; its functions; its fields and constructors."""
+    own, public, functions, parts = set(), set(), set(), set()
+    for p in glob.glob("crates/**/*.antt", recursive=True):
+        own.update(n for n in TOKEN.findall(read(p)) if is_camel(n))
+        if of_function(p):
+            continue
+        block = None
         for line in read(p).splitlines():
             m = SIGNATURE.match(line)
+            depth = len(line) - len(line.lstrip())
+            if block is not None and line.strip() and depth <= block:
+                block = None
+            if m and block is not None:
+                parts.add(m.group(1))
+            if re.match(r"\s*(?:pub )?(?:data|record) ", line):
+                block = depth
             names = ([m.group(1)] if m else []) + LET.findall(line)
             own.update(names)
             if m and "/specs/" in p:
-                public.add(m.group(1))
-    return own, public
+                if p.count("/") == 3:
+                    public.add(m.group(1))
+                if re.match(r"\s*(unfoldable|abbrev) ", line):
+                    functions.add(m.group(1))
+    return own, public, functions, parts
 
 
 def foreign():
@@ -84,9 +110,9 @@ def is_camel(name):
     return name[:1].islower() and re.search(r"[a-z0-9][A-Z]", name) and "-" not in name
 
 
-def renamed(own, public):
+def renamed(own, functions, parts):
     """The new spelling of each old one."""
-    words = {snake(n) for n in public if "-" not in n} | LIBRARY
+    words = {snake(n) for n in functions if "-" not in n} | LIBRARY
     out = {}
     for n in sorted(own):
         if is_camel(n):
@@ -95,7 +121,7 @@ def renamed(own, public):
             parts = [snake(p) for p in n.split("-")]
             text = parts[0]
             for a, b in zip(parts, parts[1:]):
-                text += ("-" if a in words and b in words else "_") + b
+                text += ("-" if a in words and b in words and n not in parts else "_") + b
             if text != n:
                 out[n] = text
     return out | {n: v for n, v in OVERRIDE.items() if n in own}
@@ -108,7 +134,7 @@ def apart(out, own, public):
         taken[out.get(n, n)].append(n)
     for new, olds in sorted(taken.items()):
         if len(olds) > 1:
-            olds = sorted(olds, key=lambda n: (n not in public, "-" in n))
+            olds = sorted(olds, key=lambda n: (n not in public or "-" in n, "-" in n, not is_camel(n)))
             for n in olds[1:]:
                 print(f"together: {' '.join(olds)} -> {new}; {n} -> {new}_lem")
                 out[n] = new + "_lem"
@@ -139,9 +165,9 @@ def respell(text, out, steps=False):
 
 
 def main():
-    own, public = defined()
+    own, public, functions, parts = defined()
     other = foreign()
-    out = renamed(own, public)
+    out = renamed(own, functions, parts)
     for n in [n for n in out if n in other]:
         print(f"the library's too, kept: {n}")
         del out[n]
@@ -154,7 +180,7 @@ def main():
     for p in sorted(files):
         old = read(p)
         if p.endswith(".antt"):
-            new = respell(old, out, p.count("/") > 3 and "/proofs/" in p)
+            new = respell(old, out, of_function(p))
         else:
             pieces = re.split(r'("(?:[^"\\\n]|\\.)*")', old)
             new = "".join(t if i % 2 else respell(t, camel) for i, t in enumerate(pieces))
@@ -172,6 +198,8 @@ def main():
     for c in sorted(glob.glob("crates/*/src")):
         subprocess.run(["rt", "fmt"], cwd=os.path.dirname(c), stdout=subprocess.DEVNULL, check=False)
     print(f"{len(out)} names")
+    if "--list" in sys.argv:
+        print("\n".join(f"{n} {v}" for n, v in sorted(out.items())))
 
 
 if __name__ == "__main__":

@@ -13,9 +13,9 @@ use Rattle.answers.specs.Answers.{number_of, answered}
 use Rattle.actions.specs.Records.{record_answer, record_after}
 
 -- the document's number of a step's answer
-number-answered : (n tag : ℕ) → number_of (answered n tag) ≡ n
+number_answered : (n tag : ℕ) → number_of (answered n tag) ≡ n
 unfolding number_of answered
-number-answered n tag = go (eqb n 0) refl
+number_answered n tag = go (eqb n 0) refl
   where
     go : (v : Bool) → eqb n 0 ≡ v → number_of (answered n tag) ≡ n
     go true e = rw e (sym (eqb-true n 0 e))
@@ -31,20 +31,20 @@ module _ (t : List ℕ) (x : Action) where
   unnamed_keeps h = rw (← (unnamed_says h))
 
   module _ (named : no_action x ≡ false) where
-    pub unsound-says : unsound t x ≡ true → 8 ≡ record_answer t x
+    pub unsound_says : unsound t x ≡ true → 8 ≡ record_answer t x
     unfolding record_answer first_of
-    unsound-says h = rw (named, h)
+    unsound_says h = rw (named, h)
 
-    pub unsound-keeps : unsound t x ≡ true → t ≡ record_after t x
+    pub unsound_keeps : unsound t x ≡ true → t ≡ record_after t x
     unfolding record_after
-    unsound-keeps h = rw (← (unsound-says h))
+    unsound_keeps h = rw (← (unsound_says h))
 
     passed : unsound t x ≡ false → record_answer t x ≡ step_answer t x
     unfolding record_answer step_answer first_of
     passed h = rw (named, h)
 
-    pub step-says : (r tag : ℕ) (a : Answer) → unsound t x ≡ false → r ≡ number_of a → a ≡ answered (step_answer t x) tag → r ≡ record_answer t x
-    step-says r tag a h e q = e ∙ ap number_of q ∙ number-answered (step_answer t x) tag ∙ sym (passed h)
+    pub step_says : (r tag : ℕ) (a : Answer) → unsound t x ≡ false → r ≡ number_of a → a ≡ answered (step_answer t x) tag → r ≡ record_answer t x
+    step_says r tag a h e q = e ∙ ap number_of q ∙ number_answered (step_answer t x) tag ∙ sym (passed h)
 
     pub step_takes : (u : List ℕ) → unsound t x ≡ false → u ≡ step_after t x → u ≡ record_after t x
     unfolding record_after step_after

@@ -1,5 +1,7 @@
 // What a record asks for, on tables of the right length: its action is named or refused 1, the tables are sound or refused 8, then
 // the step itself.
+#![tactic(auto)]
+
 ghost use Rattle.std.specs.Prelude.{◌≡◌, true, false, ◌≤◌, ◌<◌};
 ghost use Rattle.tables.specs.Layout.{Whole};
 ghost use Rattle.rules.specs.Action.{begin, action_named};

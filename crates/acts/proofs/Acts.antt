@@ -19,9 +19,9 @@ unfoldable pub level_left : List ℕ → ℕ → ℕ → ℕ → ℕ
 level_left t n up k = up + level_of (spawner t) (n - up) k
 
 module _ (t : List ℕ) (n : ℕ) where
-  pub level-none : (k : ℕ) → level_left t n 0 k ≡ level_of (spawner t) n k
+  pub level_none : (k : ℕ) → level_left t n 0 k ≡ level_of (spawner t) n k
   unfolding level_left
-  level-none k = let e : n - 0 ≡ n = omega arith in zero-add _ ∙ ap (λ (m : ℕ). level_of (spawner t) m k) e
+  level_none k = let e : n - 0 ≡ n = omega arith in zero-add _ ∙ ap (λ (m : ℕ). level_of (spawner t) m k) e
 
   module _ (up k all : ℕ) (inv : level_left t n up k ≡ all) where
     one_more : up < n → level_left t n up k ≡ up + cond (eqb (task_maker t k) 0) 1 (suc (level_of (spawner t) (n - (up + 1)) (task_maker t k)))
@@ -37,15 +37,15 @@ module _ (t : List ℕ) (n : ℕ) where
         let q : level_left t n up k ≡ up + suc (level_of (spawner t) (n - (up + 1)) (task_maker t k)) = one_more h ∙ rw (ne_eqb (task_maker t k) 0 (λ i. z (e ∙ i))) refl in
         rw e (omega (arith, q, inv))
 
-    pub level-done : n ≤ up → up + 1 ≡ all
+    pub level_done : n ≤ up → up + 1 ≡ all
     unfolding level_left level_of
-    level-done h = let m : n - up ≡ 0 = omega arith in rw m at inv
+    level_done h = let m : n - up ≡ 0 = omega arith in rw m at inv
 
 -- ---- children counted
 module _ (maker : ℕ → ℕ) (k : ℕ) where
-  pub children-none : 0 ≡ children_of maker 0 k
+  pub children_none : 0 ≡ children_of maker 0 k
   unfolding children_of
-  children-none = refl
+  children_none = refl
 
   pub children_more : (j c d : ℕ) → d ≡ digit (eqb (maker (j + 1)) k) → c ≡ children_of maker j k → c + d ≡ children_of maker (j + 1) k
   unfolding children_of
@@ -54,8 +54,8 @@ module _ (maker : ℕ → ℕ) (k : ℕ) where
       let q : children_of maker (suc j) k ≡ digit (eqb (maker (j + 1)) k) + children_of maker j k = rw m refl in
       rw m (omega (arith, e, inv, q))
 
-  pub children-done : (n j c : ℕ) → n ≤ j → j ≤ n → c ≡ children_of maker j k → c ≡ children_of maker n k
-  children-done n j c h l inv = let e : j ≡ n = omega arith in inv ∙ ap (λ (m : ℕ). children_of maker m k) e
+  pub children_done : (n j c : ℕ) → n ≤ j → j ≤ n → c ≡ children_of maker j k → c ≡ children_of maker n k
+  children_done n j c h l inv = let e : j ≡ n = omega arith in inv ∙ ap (λ (m : ℕ). children_of maker m k) e
 
 -- ---- the lowest running task, after j that do not run
 module _ (t : List ℕ) where
@@ -78,9 +78,9 @@ module _ (t : List ℕ) where
     unfolding running_left
     running_stop v h e z = search_stop runs 1 (tasks_made t) j all (omega arith) (sym e ∙ z) inv
 
-    pub running-done : n ≤ j → j ≤ n → 1 + n ≡ all
+    pub running_done : n ≤ j → j ≤ n → 1 + n ≡ all
     unfolding running_left
-    running-done h l = let e : 1 + n ≡ 1 + tasks_made t = omega arith in e ∙ search_done runs 1 (tasks_made t) j all (omega arith) (omega arith) inv
+    running_done h l = let e : 1 + n ≡ 1 + tasks_made t = omega arith in e ∙ search_done runs 1 (tasks_made t) j all (omega arith) (omega arith) inv
 
 -- ---- a place by remainder is a byte
 pub place-fits : (x places : ℕ) → 1 ≤ places → places ≤ 8 → x % places < 256

@@ -1,4 +1,6 @@
 // What a running task does next, read from the rows of tasks: its level and its children, the lowest that runs, the place that it spawns to.
+#![tactic(auto)]
+
 ghost use Rattle.std.specs.Prelude.{◌≡◌, ◌+◌, ◌%◌, ◌≤◌, eqb};
 ghost use Rattle.tables.specs.Bits.{digit};
 ghost use Rattle.tables.specs.Layout.{Whole};

@@ -1,4 +1,6 @@
 // The step adopt: books with a dead home become ghosts of their parent, and when that is refused.
+#![tactic(auto)]
+
 ghost use Rattle.std.specs.Prelude.{◌≡◌, [], ◌∷◌, ◌+◌, ◌≤◌, ◌<◌, eqb, length, set};
 ghost use Rattle.tables.specs.Bytes.{part, write};
 ghost use Rattle.tables.specs.Bits.{digit, marked};

@@ -1,4 +1,6 @@
 // A step's inner answer: done with what was sent, or a refusal carrying its number; and the document's number of each case.
+#![tactic(auto)]
+
 ghost use Rattle.std.specs.Prelude.{◌≡◌};
 ghost use Rattle.answers.specs.Answers.{number_of};
 

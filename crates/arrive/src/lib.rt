@@ -1,4 +1,6 @@
 // What a delivered message does that arrives at a place, tags 6, 8 and 10: a task, a release, count-dropped. Each answers the tag of its reply, 0 for none.
+#![tactic(auto)]
+
 ghost use Rattle.std.specs.Prelude.{◌≡◌, false, ◌≤◌, ◌<◌};
 ghost use Rattle.tables.specs.Bits.{marked};
 ghost use Rattle.tables.specs.Layout.{Whole};

@@ -15,22 +15,22 @@ use Rattle.rules.specs.Refusals.{not_there, no_room, step_answer}
 use Rattle.rules.proofs.Taken.{step-taken, not-not}
 
 module _ (t : List ℕ) (few : (places t ≤ 8) × (finishes_made t ≤ 32)) where
-  finish-range : (f : ℕ) → finish_made t f ≡ true → (1 ≤ f) × (f ≤ 32)
+  finish_range : (f : ℕ) → finish_made t f ≡ true → (1 ≤ f) × (f ≤ 32)
   unfolding finish_made
-  finish-range f h =
+  finish_range f h =
       let e = every_each (leb 1 f ∷ leb f (finishes_made t) ∷ []) h in
       let low = leb-true 1 f e.0 in
       let high = leb-true f (finishes_made t) e.1.0 in
       (low, omega arith)
 
-  place-range : (p : ℕ) → in_session t p ≡ true → p < 8
+  place_range : (p : ℕ) → in_session t p ≡ true → p < 8
   unfolding in_session
-  place-range p h = let z = ltb-true p (places t) h in omega arith
+  place_range p h = let z = ltb-true p (places t) h in omega arith
 
   pub ask_ranges : (f v j : ℕ) → every (finish_made t f ∷ in_session t v ∷ in_session t j ∷ []) ≡ true → ((1 ≤ f) × (f ≤ 32)) × ((v < 8) × (j < 8))
   ask_ranges f v j h =
       let e = every_each (finish_made t f ∷ in_session t v ∷ in_session t j ∷ []) h in
-      (finish-range f e.0, (place-range v e.1.0, place-range j e.1.1.0))
+      (finish_range f e.0, (place_range v e.1.0, place_range j e.1.1.0))
 
   pub ask-taken : (f v j : ℕ) → step_answer t (ask f v j) ≡ 0 → ((1 ≤ f) × (f ≤ 32)) × ((v < 8) × (j < 8))
   unfolding not_there

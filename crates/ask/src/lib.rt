@@ -1,4 +1,6 @@
 // The step ask: marks the pair and sends count-dropped, or is refused.
+#![tactic(auto)]
+
 ghost use Rattle.std.specs.Prelude.{◌≡◌, [], ◌∷◌, ◌≤◌, ◌<◌, set};
 ghost use Rattle.tables.specs.Bits.{marked, with_mark};
 ghost use Rattle.tables.specs.Walks.{every};

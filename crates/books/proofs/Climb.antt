@@ -17,9 +17,9 @@ use Rattle.rules.specs.Sound.{sound, head_sound, rows_sound, tasks_sound, finish
 use Rattle.rules.specs.Deliver.{climb_stops, nearest}
 use Rattle.books.specs.Parents.{ParentsFall}
 
-pub made-low : (t : List ℕ) (f : ℕ) → ParentsFall t → f ≤ finishes_made t → f ≤ 32
+pub made_low : (t : List ℕ) (f : ℕ) → ParentsFall t → f ≤ finishes_made t → f ≤ 32
 unfolding ParentsFall
-made-low t f falls l = let m = falls.0 in omega arith
+made_low t f falls l = let m = falls.0 in omega arith
 
 pub parent_falls : (t : List ℕ) (f : ℕ) → ParentsFall t → 1 ≤ f → f ≤ finishes_made t → parent t f < f
 unfolding ParentsFall
@@ -101,6 +101,6 @@ climb_here t f v e h = sym (climb t 31 f true (stops_here t f (sym e ∙ h)))
 pub climb_on : (t : List ℕ) (f v q r : ℕ) → ParentsFall t → f ≤ finishes_made t → (f ≡ 0 → ⊥) → v ≡ present t f → (v ≡ 1 → ⊥)
     → q ≡ parent t f → q < f → r ≡ nearest t 32 q → r ≡ nearest t 32 f
 climb_on t f v q r falls l h e g p b inv =
-    let most = made-low t f falls l in
+    let most = made_low t f falls l in
     inv ∙ enough t falls 32 31 q (omega arith) (omega arith) (omega arith) ∙ ap (nearest t 31) p
     ∙ sym (climb t 31 f false (goes_on_lem t f h (λ z. g (e ∙ z))))

@@ -11,7 +11,7 @@ use Rattle.rules.specs.Books.{book_of, with_book, cleared_column, lowered_column
 use Rattle.rules.specs.Cancel.{cancelled}
 use Rattle.rules.specs.Deliver.{new_book}
 use Rattle.square.proofs.Columns.{cleared_length, lowered_length}
-use Rattle.square.proofs.New.{new_length}
+use Rattle.square.proofs.New.{new-length}
 
 -- a is the place that the book's function gave
 module _ (t : List ℕ) (f a : ℕ) (place : a ≡ 8 * book_row f) where
@@ -20,9 +20,9 @@ module _ (t : List ℕ) (f a : ℕ) (place : a ≡ 8 * book_row f) where
   book_lent = let z : a ≡ 8 * book_row f + 0 = omega arith in part_lent t a (a + 144) 144 (omega arith) ∙ ap (λ (k : ℕ). part t k 144) z
 
   module _ (whole : Whole t) (high : f ≤ 32) where
-    book-length : length (book_of t f) ≡ 144
+    book_length : length (book_of t f) ≡ 144
     unfolding book_of
-    book-length = length_part t (8 * book_row f + 0) 144 (omega arith)
+    book_length = length_part t (8 * book_row f + 0) 144 (omega arith)
 
     -- g is what the callee makes of a book
     written : (g : List ℕ → List ℕ) (p : List ℕ) → p ≡ g (take (a + 144 - a) (drop a t)) → length (g (book_of t f)) ≡ 144
@@ -32,15 +32,15 @@ module _ (t : List ℕ) (f a : ℕ) (place : a ≡ 8 * book_row f) where
         let z : a ≡ 8 * book_row f + 0 = omega arith in
         part_changed g t p a (a + 144) 144 q (rw (← z) at l) (omega arith) (omega arith) ∙ ap (λ (k : ℕ). write t k (g (part t k 144))) z
 
-    pub book-cancelled : (v : ℕ) (p : List ℕ) → p ≡ cleared_column (take (a + 144 - a) (drop a t)) v
+    pub book_cancelled : (v : ℕ) (p : List ℕ) → p ≡ cleared_column (take (a + 144 - a) (drop a t)) v
         → take a t ++ (p ++ drop (a + 144 - a) (drop a t)) ≡ cancelled t f v
     unfolding cancelled
-    book-cancelled v p q = written (λ b. cleared_column b v) p q (cleared_length (book_of t f) v book-length)
+    book_cancelled v p q = written (λ b. cleared_column b v) p q (cleared_length (book_of t f) v book_length)
 
     pub book_lowered : (v : ℕ) (counts p : List ℕ) → p ≡ lowered_column (take (a + 144 - a) (drop a t)) v counts
         → take a t ++ (p ++ drop (a + 144 - a) (drop a t)) ≡ with_book t f (lowered_column (book_of t f) v counts)
-    book_lowered v counts p q = written (λ b. lowered_column b v counts) p q (lowered_length (book_of t f) v counts book-length)
+    book_lowered v counts p q = written (λ b. lowered_column b v counts) p q (lowered_length (book_of t f) v counts book_length)
 
     pub book_new : (h q : ℕ) (p : List ℕ) → p ≡ new_book h q
         → take a t ++ (p ++ drop (a + 144 - a) (drop a t)) ≡ with_book t f (new_book h q)
-    book_new h q p e = written (λ b. new_book h q) p e (new_length h q)
+    book_new h q p e = written (λ b. new_book h q) p e (new-length h q)

@@ -1,4 +1,6 @@
 // The store book of a finish, a part from the middle of the session tables: lent on to be tested or written, and found from a finish upwards.
+#![tactic(auto)]
+
 ghost use Rattle.std.specs.Prelude.{◌≡◌, ◌≤◌, ◌<◌};
 ghost use Rattle.tables.specs.Layout.{Whole};
 ghost use Rattle.rules.specs.Fields.{dead_mask, present, parent, finishes_made};

@@ -15,7 +15,7 @@ use Rattle.tables.proofs.Changes.{byte_change_in, byte_change_out}
 use Rattle.tables.proofs.Tests.{if_eq, if_ne, last, same_eqb}
 use Rattle.rules.specs.Books.{total, column, ghosts, clear_row, cleared_column}
 use Rattle.rules.specs.Closing.{closes}
-use Rattle.square.proofs.Sums.{sum_add, sum_last, sum_none}
+use Rattle.square.proofs.Sums.{sum-add, sum_last, sum-none}
 use Rattle.square.proofs.Columns.{clear_keeps}
 
 sum_same : (b c : List ℕ) (n k : ℕ) → ((q : ℕ) → k ≤ q → q < k + n → byte c q ≡ byte b q) → sum_bytes c k 1 n ≡ sum_bytes b k 1 n
@@ -47,7 +47,7 @@ row_more : (m : List ℕ) (n : ℕ) → sum_bytes m 8 1 (8 * suc n) ≡ sum_byte
 row_more m n =
     let z : 8 * suc n ≡ 8 * n + 8 = omega arith in
     let y : 8 + 1 * (8 * n) ≡ 8 + 8 * n = omega arith in
-    ap (sum_bytes m 8 1) z ∙ sum_add m 8 1 (8 * n) 8 ∙ ap (λ (k : ℕ). sum_bytes m 8 1 (8 * n) + sum_bytes m k 1 8) y
+    ap (sum_bytes m 8 1) z ∙ sum-add m 8 1 (8 * n) 8 ∙ ap (λ (k : ℕ). sum_bytes m 8 1 (8 * n) + sum_bytes m k 1 8) y
 
 module _ (b : List ℕ) (v : ℕ) (long : length b ≡ 144) (below : v < 8) where
   -- byte j of row n
@@ -71,7 +71,7 @@ module _ (b : List ℕ) (v : ℕ) (long : length b ≡ 144) (below : v < 8) wher
       ap (byte (cleared_column b v)) z ∙ kept_at n (q - (8 + 8 * n)) h (omega arith) (λ i. d (omega arith)) ∙ ap (byte b) (sym z)
 
   rows : (n : ℕ) → n ≤ 8 → sum_bytes (cleared_column b v) 8 1 (8 * n) + sum_bytes b (8 + v) 8 n ≡ sum_bytes b 8 1 (8 * n)
-  rows zero h = omega (arith, sum_none (cleared_column b v) 8 1, sum_none b (8 + v) 8, sum_none b 8 1)
+  rows zero h = omega (arith, sum-none (cleared_column b v) 8 1, sum-none b (8 + v) 8, sum-none b 8 1)
   rows (suc n) h =
       let x : 8 + v + 8 * n ≡ 8 + (8 * n + v) = omega arith in
       let here : byte b (8 + v + 8 * n) ≡ byte b (8 + (8 * n + v)) = ap (byte b) x in

@@ -64,19 +64,19 @@ module _ (t : List ℕ) (f v : ℕ) (whole : Whole t) (finish : (1 ≤ f) × (f 
   cleared_long : length (cleared_column (book_of t f) v) ≡ 144
   cleared_long = cleared_length (book_of t f) v book_long
 
-  book-after : book_of (cancelled t f v) f ≡ cleared_column (book_of t f) v
+  book_after : book_of (cancelled t f v) f ≡ cleared_column (book_of t f) v
   unfolding book_of cancelled with_book
-  book-after = let high = finish.1 in part-write t (cleared_column (book_of t f) v) (book_place f) 144 cleared_long (omega arith)
+  book_after = let high = finish.1 in part-write t (cleared_column (book_of t f) v) (book_place f) 144 cleared_long (omega arith)
 
-  before-book : (q : ℕ) → q < book_place f → byte (cancelled t f v) q ≡ byte t q
+  before_book : (q : ℕ) → q < book_place f → byte (cancelled t f v) q ≡ byte t q
   unfolding cancelled with_book
-  before-book q h = byte-write_out t (book_place f) (cleared_column (book_of t f) v) q (inl h)
+  before_book q h = byte-write_out t (book_place f) (cleared_column (book_of t f) v) q (inl h)
 
   dead-after : dead_mask (cancelled t f v) ≡ dead_mask t
-  dead-after = before-book 1 (omega arith)
+  dead-after = before_book 1 (omega arith)
 
   home_after : home (cancelled t f v) f ≡ home t f
-  home_after = let low = finish.0 in before-book (place (finish_row f) 0) (omega arith)
+  home_after = let low = finish.0 in before_book (place (finish_row f) 0) (omega arith)
 
   adopted_in : byte (cleared_column (book_of t f) v) 3 ≡ byte (book_of t f) 3
   unfolding cleared_column
@@ -86,9 +86,9 @@ module _ (t : List ℕ) (f v : ℕ) (whole : Whole t) (finish : (1 ≤ f) × (f 
   unfolding book_of
   adopted_of = byte-part t (book_place f) 144 3 (omega arith)
 
-  adopted-after : is_adopted (cancelled t f v) f ≡ is_adopted t f
+  adopted_after : is_adopted (cancelled t f v) f ≡ is_adopted t f
   unfolding cancelled with_book
-  adopted-after =
+  adopted_after =
       let high = finish.1 in
       let l = cleared_long in
       let z : place (book_row f) 3 ≡ book_place f + 3 = omega arith in
@@ -98,7 +98,7 @@ module _ (t : List ℕ) (f v : ℕ) (whole : Whole t) (finish : (1 ≤ f) × (f 
 
   pub sends_told : closing_sends (cancelled t f v) f ≡ every (closes (cleared_column (book_of t f) v) ∷ some_of (eqb (is_adopted t f) 1 ∷ not (dead t (home t f)) ∷ []) ∷ [])
   unfolding closing_sends
-  sends_told = rw (book-after, adopted-after, home_after, dead-after) refl
+  sends_told = rw (book_after, adopted_after, home_after, dead-after) refl
 
 -- what closes without a message is the same for any slot
 aside : {A : Type 0} (a b d : Bool) (x x' y y' w u : A) → every (every (a ∷ some_of (b ∷ not d ∷ []) ∷ []) ∷ true ∷ []) ≡ false

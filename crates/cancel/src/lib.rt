@@ -1,4 +1,6 @@
 // The step that cancels a dead place's column of a book, then tests whether the book closes.
+#![tactic(auto)]
+
 ghost use Rattle.std.specs.Prelude.{◌≡◌, cond, [], ◌∷◌, ◌≤◌, ◌<◌, eqb, length};
 ghost use Rattle.tables.specs.Walks.{every};
 ghost use Rattle.tables.specs.Layout.{Whole};

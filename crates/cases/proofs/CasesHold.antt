@@ -28,11 +28,11 @@ use Rattle.rules.specs.Step.{step, after}
 use Rattle.rules.specs.Quiet.{is_running, running_tasks, is_full, messages_in_flight, calm_book, quiet}
 use Rattle.rules.specs.PrintedRun.{last_line, before, run, replayed}
 use Rattle.cases.specs.Cases.{Case, Shows, Holds, AllHold, none_left, also, cases, nothing_more, to_record7, lines_to7, A7, to_ask, lines_to_ask, edge_A, edge_begin, edge_end, edge_cancel, edge_held, edge_dropped, edge_again, edge_received, edge_kill, edge_slot}
-use Rattle.cases.proofs.Runs.{same_line_lem, leads, rest, is_nil, matches, matches_shows}
+use Rattle.cases.proofs.Runs.{same_line, leads, rest, is_nil, matches, matches_shows}
 
 -- a run of a schedule with every rule of document 01 opened
 unfoldable pub computed : ℕ → List ℕ → Case → Bool
-unfolding part over write bit_at mask marked with_mark without_mark every some_of every_part first_part count_parts each_part change_parts some_below every_below sum_bytes task_made finish_made in_session is_main may_run runs message no_counts bytes_of tagged message_in from_slot message_at send goes_to is_empty lowest_empty slots_full only0 action_named action_of book_of total column ghosts with_book clear_row cleared_column lower_row lowered_column dead_column under_repair owed_cell owes head_sound task_fits finish_fits parent_fits book_fits message_fits task_sound finish_sound book_sound slot_sound tasks_sound finishes_sound books_sound slots_sound rows_sound sound closes without_book closed_book closing_test closing_sends zero_tables begin_step with_sent first_spawn later_spawn is_first spawn_step spawn_wanted opened open_step end_unpublished end_published end_main less_each received_row reported_row end_last end_earlier end_other end_step end_sends end_main_wanted each_at_most end_other_wanted end_wanted loses_task kill_task loses_finish kill_finish kill_book kill_local kill_slot kill_step orphan adopt_book with_ghosts adopt_step cancelled cancel_step ask_step book_absent discarded waits_for_repair held lowers fits deliver_wanted climb_stops nearest new_book deliver_publish deliver_published counted deliver_transit deliver_granted deliver_denied arrived deliver_task deliver_report deliver_release without_ghost deliver_ghost_ended deliver_count_dropped deliver_dropped delivered deliver_message deliver_step wrong_length no_action unsound not_there wrong_place not_ready must_wait no_room unwanted first_of step_refusals refusals answer step after is_running running_tasks is_full messages_in_flight calm_book quiet last_line same_line_lem leads rest is_nil matches
+unfolding part over write bit_at mask marked with_mark without_mark every some_of every_part first_part count_parts each_part change_parts some_below every_below sum_bytes task_made finish_made in_session is_main may_run runs message no_counts bytes_of tagged message_in from_slot message_at send goes_to is_empty lowest_empty slots_full only0 action_named action_of book_of total column ghosts with_book clear_row cleared_column lower_row lowered_column dead_column under_repair owed_cell owes head_sound task_fits finish_fits parent_fits book_fits message_fits task_sound finish_sound book_sound slot_sound tasks_sound finishes_sound books_sound slots_sound rows_sound sound closes without_book closed_book closing_test closing_sends zero_tables begin_step with_sent first_spawn later_spawn is_first spawn_step spawn_wanted opened open_step end_unpublished end_published end_main less_each received_row reported_row end_last end_earlier end_other end_step end_sends end_main_wanted each_at_most end_other_wanted end_wanted loses_task kill_task loses_finish kill_finish kill_book kill_local kill_slot kill_step orphan adopt_book with_ghosts adopt_step cancelled cancel_step ask_step book_absent discarded waits_for_repair held lowers fits deliver_wanted climb_stops nearest new_book deliver_publish deliver_published counted deliver_transit deliver_granted deliver_denied arrived deliver_task deliver_report deliver_release without_ghost deliver_ghost_ended deliver_count_dropped deliver_dropped delivered deliver_message deliver_step wrong_length no_action unsound not_there wrong_place not_ready must_wait no_room unwanted first_of step_refusals refusals answer step after is_running running_tasks is_full messages_in_flight calm_book quiet last_line same_line leads rest is_nil matches
 computed n t c = matches n t c.schedule c.lines c.facts
 
 -- the tables after A's record 7: task 2 of finish 1 runs at place 1, which has received it from place 0

@@ -18,7 +18,7 @@ use Rattle.rules.specs.Step.{after}
 use Rattle.rules.specs.Outcome.{Meets}
 use Rattle.rules.specs.WrongCores.{refuses_all, always_zero, never_writes, only_begins, invents_dropped, invented_step, invented}
 use Rattle.rules.proofs.Unique.{answer_is, tables_are, outcome}
-use Rattle.rules.proofs.Errors.{reply-says, reply-slot, reply-whole}
+use Rattle.rules.proofs.Errors.{reply_says, reply_slot, reply_whole}
 use Rattle.cases.proofs.CasesHold.{computed}
 
 -- Case A: record 1, begin with 3 places, is taken and writes the place count.
@@ -84,10 +84,10 @@ module _ (t r : List ℕ) (f k v j x : ℕ) (is-taken : answer t r ≡ 0) (kind 
 
   pub invented_breaks : (n : ℕ) → n ≢ x - received t f j v → Meets (invents_dropped n) t r → ⊥
   invented_breaks n h o =
-      let size = reply-whole t r f k v j x is-taken kind asks in
-      let slot = reply-slot t r f k v j x is-taken kind asks in
+      let size = reply_whole t r f k v j x is-taken kind asks in
+      let slot = reply_slot t r f k v j x is-taken kind asks in
       let same : set (after t r) (place (slot_row (byte r 1)) 5) n ≡ after t r = sym (invents n) ∙ tables_are t r o in
       h
       (sym (get_or-set_same (after t r) (place (slot_row (byte r 1)) 5) n 0 (omega (arith, size, slot)))
       ∙ ap (λ (u : List ℕ). byte u (place (slot_row (byte r 1)) 5)) same
-      ∙ reply-says t r f k v j x is-taken kind asks)
+      ∙ reply_says t r f k v j x is-taken kind asks)

@@ -11,21 +11,21 @@ use Rattle.rules.specs.Step.{after}
 use Rattle.rules.specs.PrintedRun.{Line, took, short, ends, last_line, before, at_end, run}
 use Rattle.cases.specs.Cases.{Shows}
 
-unfoldable pub same_line_lem : Line → Line → Bool
-same_line_lem (took n k a) (took n' k' a') = every (eqb n n' ∷ eqb k k' ∷ eqb a a' ∷ [])
-same_line_lem (took n k a) (short n') = false
-same_line_lem (took n k a) (ends x y z) = false
-same_line_lem (short n) (took n' k' a') = false
-same_line_lem (short n) (short n') = eqb n n'
-same_line_lem (short n) (ends x y z) = false
-same_line_lem (ends x y z) (took n' k' a') = false
-same_line_lem (ends x y z) (short n') = false
-same_line_lem (ends x y z) (ends x' y' z') = every (eqb x x' ∷ eqb y y' ∷ eqb z z' ∷ [])
+unfoldable pub same_line : Line → Line → Bool
+same_line (took n k a) (took n' k' a') = every (eqb n n' ∷ eqb k k' ∷ eqb a a' ∷ [])
+same_line (took n k a) (short n') = false
+same_line (took n k a) (ends x y z) = false
+same_line (short n) (took n' k' a') = false
+same_line (short n) (short n') = eqb n n'
+same_line (short n) (ends x y z) = false
+same_line (ends x y z) (took n' k' a') = false
+same_line (ends x y z) (short n') = false
+same_line (ends x y z) (ends x' y' z') = every (eqb x x' ∷ eqb y y' ∷ eqb z z' ∷ [])
 
 -- x is the first line of l
 unfoldable pub leads : Line → List Line → Bool
 leads x [] = false
-leads x (y ∷ l) = same_line_lem x y
+leads x (y ∷ l) = same_line x y
 
 unfoldable pub rest : List Line → List Line
 rest [] = []
@@ -54,26 +54,26 @@ three true true false h = absurd (false≢true h)
 three true false c h = absurd (false≢true h)
 three false b c h = absurd (false≢true h)
 
-same_line : (x y : Line) → same_line_lem x y ≡ true → x ≡ y
-unfolding same_line_lem
-same_line (took n k a) (took n' k' a') h =
+same_line_lem : (x y : Line) → same_line x y ≡ true → x ≡ y
+unfolding same_line
+same_line_lem (took n k a) (took n' k' a') h =
     let e = three (eqb n n') (eqb k k') (eqb a a') h in
     rw (eqb-true n n' e.0, eqb-true k k' e.1.0, eqb-true a a' e.1.1)
-same_line (took n k a) (short n') h = absurd (false≢true h)
-same_line (took n k a) (ends x y z) h = absurd (false≢true h)
-same_line (short n) (took n' k' a') h = absurd (false≢true h)
-same_line (short n) (short n') h = rw (eqb-true n n' h)
-same_line (short n) (ends x y z) h = absurd (false≢true h)
-same_line (ends x y z) (took n' k' a') h = absurd (false≢true h)
-same_line (ends x y z) (short n') h = absurd (false≢true h)
-same_line (ends x y z) (ends x' y' z') h =
+same_line_lem (took n k a) (short n') h = absurd (false≢true h)
+same_line_lem (took n k a) (ends x y z) h = absurd (false≢true h)
+same_line_lem (short n) (took n' k' a') h = absurd (false≢true h)
+same_line_lem (short n) (short n') h = rw (eqb-true n n' h)
+same_line_lem (short n) (ends x y z) h = absurd (false≢true h)
+same_line_lem (ends x y z) (took n' k' a') h = absurd (false≢true h)
+same_line_lem (ends x y z) (short n') h = absurd (false≢true h)
+same_line_lem (ends x y z) (ends x' y' z') h =
     let e = three (eqb x x') (eqb y y') (eqb z z') h in
     rw (eqb-true x x' e.0, eqb-true y y' e.1.0, eqb-true z z' e.1.1)
 
 leads_is : (x : Line) (l : List Line) → leads x l ≡ true → x ∷ rest l ≡ l
 unfolding leads rest
 leads_is x [] h = absurd (false≢true h)
-leads_is x (y ∷ l) h = ap (λ (z : Line). z ∷ l) (same_line x y h)
+leads_is x (y ∷ l) h = ap (λ (z : Line). z ∷ l) (same_line_lem x y h)
 
 nil_is : (l : List Line) → is_nil l ≡ true → [] ≡ l
 unfolding is_nil

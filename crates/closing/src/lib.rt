@@ -1,4 +1,6 @@
 // The closing test of a book: total 0 and no ghosts; what it then clears and sends.
+#![tactic(auto)]
+
 ghost use Rattle.std.specs.Prelude.{◌≡◌, ◌≤◌, ◌<◌, eqb};
 ghost use Rattle.tables.specs.Layout.{Whole};
 ghost use Rattle.rules.specs.Fields.{is_adopted, book_parent};

@@ -1,4 +1,6 @@
 // The bytes of store books and local books by name, one at a time: read, tested and written.
+#![tactic(auto)]
+
 ghost use Rattle.std.specs.Prelude.{◌≡◌, ◌+◌, ◌*◌, ◌≤◌, ◌<◌, set};
 ghost use Rattle.tables.specs.Bytes.{byte};
 ghost use Rattle.tables.specs.Bits.{marked};

@@ -1,4 +1,6 @@
 // The step deliver: what refuses it, and the message of its slot read, then discarded or let do what its tag says.
+#![tactic(auto)]
+
 ghost use Rattle.std.specs.Prelude.{◌≡◌, true, ◌<◌};
 ghost use Rattle.tables.specs.Layout.{Whole};
 ghost use Rattle.rules.specs.Action.{deliver};

@@ -1,4 +1,6 @@
 // What a delivered message does, tags 1 to 5: a task asks the store, and is let go to its place or dropped. Each answers the tag of its reply, 0 for none.
+#![tactic(auto)]
+
 ghost use Rattle.std.specs.Prelude.{◌≡◌, false, cond, ◌≤◌, ◌<◌};
 ghost use Rattle.tables.specs.Layout.{Whole};
 ghost use Rattle.rules.specs.Fields.{dead, home, finishes_made, live, sent_count, active, with_finish_status, with_published};

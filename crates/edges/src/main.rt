@@ -1,5 +1,7 @@
 // The edges of the core's document that its proofs leave to a run, and every refusal number, each with the tables compared to a copy
 // of what they were. The steps are the library script's, and the lines told's.
+#![tactic(auto)]
+
 ghost use Rattle.std.specs.Prelude.{◌≤◌, ◌<◌};
 
 fn step(t: &mut [u8; 15104], i: u32)

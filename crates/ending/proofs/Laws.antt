@@ -12,9 +12,9 @@ use Rattle.rules.specs.End.{end_sends}
 use Rattle.rules.specs.Refusals.{not_there, no_room, step_answer}
 use Rattle.rules.proofs.Taken.{step-taken}
 
-pub end-made : (t : List ℕ) (k : ℕ) → step_answer t (end k) ≡ 0 → task_made t k ≡ true
+pub end_made : (t : List ℕ) (k : ℕ) → step_answer t (end k) ≡ 0 → task_made t k ≡ true
 unfolding not_there
-end-made t k h = go (task_made t k) (step-taken t (end k) h).there
+end_made t k h = go (task_made t k) (step-taken t (end k) h).there
   where
     go : (c : Bool) → not c ≡ false → c ≡ true
     go true q = refl

@@ -1,4 +1,6 @@
 // The step end: of a main task, whose finish is released or waits for release, and of another task, as `reporting` has it.
+#![tactic(auto)]
+
 ghost use Rattle.std.specs.Prelude.{◌≡◌, cond, true, false, ◌<◌, eqb};
 ghost use Rattle.tables.specs.Layout.{Whole};
 ghost use Rattle.rules.specs.Action.{end};

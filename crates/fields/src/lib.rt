@@ -1,4 +1,6 @@
 // The fields of row 0, tasks and finishes by name, and what is asked of them: made, in the session, main, about to run.
+#![tactic(auto)]
+
 ghost use Rattle.std.specs.Prelude.{◌≡◌, ◌+◌, ◌*◌, ◌<◌, eqb, set};
 ghost use Rattle.tables.specs.Bytes.{byte};
 ghost use Rattle.tables.specs.Layout.{Whole, place, task_row, finish_row};

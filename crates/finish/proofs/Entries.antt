@@ -56,25 +56,25 @@ pub record_lent : (s : List ℕ) (at : ℕ) → take (at + 4 - at) (drop at s) �
 record_lent s at = part_lent s at (at + 4) 4 (omega arith)
 
 module _ (t s : List ℕ) (at : ℕ) where
-  part-short : length s < at + 4 → length (part s at 4) ≡ 4 → ⊥
+  part_short : length s < at + 4 → length (part s at 4) ≡ 4 → ⊥
   unfolding part
-  part-short h e =
+  part_short h e =
       let most : length (take 4 (drop at s)) ≤ length (drop at s) = rw (length-take 4 (drop at s)) (min-le_right 4 (length (drop at s))) in
       omega (arith, most, length-drop at s)
 
   short_wrong : length s < at + 4 → wrong_length t (part s at 4) ≡ true
   unfolding wrong_length some_of
-  short_wrong h = rw (ne_eqb (length (part s at 4)) 4 (part-short h)) (either (not (eqb (length t) 15104)))
+  short_wrong h = rw (ne_eqb (length (part s at 4)) 4 (part_short h)) (either (not (eqb (length t) 15104)))
     where
       either : (b : Bool) → cond b true true ≡ true
       either true = refl
       either false = refl
 
-  pub schedule-short : length s < 4 → wrong_length t (part s at 4) ≡ true
-  schedule-short h = short_wrong (omega arith)
+  pub schedule_short : length s < 4 → wrong_length t (part s at 4) ≡ true
+  schedule_short h = short_wrong (omega arith)
 
-  pub schedule-over : length s - 4 < at → wrong_length t (part s at 4) ≡ true
-  schedule-over h = short_wrong (omega arith)
+  pub schedule_over : length s - 4 < at → wrong_length t (part s at 4) ≡ true
+  schedule_over h = short_wrong (omega arith)
 
 -- the reading entries
 module _ (t : List ℕ) (n : ℕ) where

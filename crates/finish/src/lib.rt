@@ -1,4 +1,6 @@
 // The entries that host firmware calls: a step, a begin, and what can be read of the tables. Any bytes, any lengths, any numbers.
+#![tactic(auto)]
+
 ghost use Rattle.std.specs.Prelude.{◌≡◌, [], ◌∷◌, ◌≤◌};
 ghost use Rattle.tables.specs.Bytes.{part};
 ghost use Rattle.tables.specs.Bits.{digit};

@@ -2,11 +2,11 @@
 use Rattle.std.specs.Prelude.{◌≡◌, refl, ℕ, zero, suc, ◌+◌, ◌-◌, ◌*◌, ◌≤◌, ◌<◌, eqb}
 use Rattle.std.proofs.Common.{sym, ap, ◌∙◌, suc-mul, arith, eq-eqb, ne_eqb}
 use Rattle.std.proofs.Math.Nat.{sub-zero}
-use Rattle.model.specs.Base.Cases.{eq-cases}
-use Rattle.model.specs.Base.Updates.{upd, upd-cases, on-true, on-false}
-use Rattle.model.specs.Base.Sums.{sum, sum-suc, sum-ext, sum-ge, sum-zero, sum-upd}
+use Rattle.model.specs.Base.Cases.{eq_cases}
+use Rattle.model.specs.Base.Updates.{upd, upd-cases, on_true, on_false}
+use Rattle.model.specs.Base.Sums.{sum, sum-suc, sum_ext, sum_ge, sum_zero, sum-upd}
 use Rattle.plan.specs.Tree.{tree_size, level_of, children_of}
-use Rattle.growth.specs.Tree.{children-none, tree_suc, level-top, level_child, level_same, children_same, children_more}
+use Rattle.growth.specs.Tree.{children_none, tree_suc, level_top, level_child, level_same, children_same, children_more}
 
 -- tasks to come below a task of the level with so many children: a whole tree for each child that it lacks
 abbrev pub to_come : ℕ → ℕ → ℕ → ℕ → ℕ
@@ -40,17 +40,17 @@ grown_first L w maker l e = record {
   makers = λ x z m. rw (one x z m, e) (omega arith);
   depth = λ x z m. rw (one x z m, top) l;
   width = λ x z m. rw (one x z m, none) (omega arith);
-  size = omega (arith, sum-suc 0 (below L w maker 1), sum-zero 0 (below L w maker 1) (λ x n. absurd (omega arith)), first, whole);
+  size = omega (arith, sum-suc 0 (below L w maker 1), sum_zero 0 (below L w maker 1) (λ x n. absurd (omega arith)), first, whole);
 }
   where
     one : (x : ℕ) → 0 < x → x ≤ 1 → x ≡ 1
     one x z m = omega arith
 
     top : level_of maker L 1 ≡ 1
-    top = level-top maker L 1 e
+    top = level_top maker L 1 e
 
     none : children_of maker 1 1 ≡ 0
-    none = children-none maker 1 1 (λ x z m q. omega (arith, q, ap maker (one x z m), e))
+    none = children_none maker 1 1 (λ x z m q. omega (arith, q, ap maker (one x z m), e))
 
     first : below L w maker 1 0 ≡ w * tree_size w (L - 1)
     first = rw (top, none) (none_yet L w 1)
@@ -62,14 +62,14 @@ pub grown_room : {L w : ℕ} {maker : ℕ → ℕ} {made : ℕ} → Grown L w ma
     → made < tree_size w L
 grown_room grown zero z l d c = absurd (omega arith)
 grown_room {L} {w} {maker} {made} grown (suc j) z l d c =
-    omega (arith, grown.size, sum-ge made (below L w maker made) j (omega arith), one_less L w (level_of maker L (suc j)) (children_of maker made (suc j)) d c)
+    omega (arith, grown.size, sum_ge made (below L w maker made) j (omega arith), one_less L w (level_of maker L (suc j)) (children_of maker made (suc j)) d c)
 
 pub grown_same : {L w : ℕ} {maker maker' : ℕ → ℕ} {made : ℕ} → Grown L w maker made → ((x : ℕ) → 0 < x → x ≤ made → maker' x ≡ maker x) → Grown L w maker' made
 grown_same {L} {w} {maker} {maker'} {made} grown agree = record {
   makers = λ x z l. rw (agree x z l) (grown.makers x z l);
   depth = λ x z l. rw (level x z l) (grown.depth x z l);
   width = λ x z l. rw (children x) (grown.width x z l);
-  size = omega (arith, grown.size, sum-ext made (below L w maker made) (below L w maker' made) (λ x l. rw (level (suc x) (omega arith) (omega arith), children (suc x))));
+  size = omega (arith, grown.size, sum_ext made (below L w maker made) (below L w maker' made) (λ x l. rw (level (suc x) (omega arith) (omega arith), children (suc x))));
 }
   where
     level : (x : ℕ) → 0 < x → x ≤ made → level_of maker' L x ≡ level_of maker L x
@@ -90,20 +90,20 @@ module _ {L w : ℕ} {maker : ℕ → ℕ} {made : ℕ} (grown : Grown L w maker
       let e : level_of maker' L (maker' (suc made)) ≡ level_of maker L k = rw new (level_old k z l) in
       omega (arith, e, level_child maker' L (suc made) (omega arith) (omega arith))
 
-  children-at : children_of maker' (suc made) k ≡ suc (children_of maker made k)
-  children-at = omega (arith, children_more maker maker' made agree k, on-true (eqb (maker' (suc made)) k) 1 (eq-eqb (maker' (suc made)) k new))
+  children_at : children_of maker' (suc made) k ≡ suc (children_of maker made k)
+  children_at = omega (arith, children_more maker maker' made agree k, on_true (eqb (maker' (suc made)) k) 1 (eq-eqb (maker' (suc made)) k new))
 
   children_old : (x : ℕ) → (x ≡ k → ⊥) → children_of maker' (suc made) x ≡ children_of maker made x
-  children_old x ne = omega (arith, children_more maker maker' made agree x, on-false (eqb (maker' (suc made)) x) 1 (ne_eqb (maker' (suc made)) x (λ e. ne (sym e ∙ new))))
+  children_old x ne = omega (arith, children_more maker maker' made agree x, on_false (eqb (maker' (suc made)) x) 1 (ne_eqb (maker' (suc made)) x (λ e. ne (sym e ∙ new))))
 
   children_new : children_of maker' (suc made) (suc made) ≡ 0
   children_new = children_old (suc made) (λ e. omega arith)
-      ∙ children-none maker made (suc made) (λ x p m e. omega (arith, grown.makers x p m))
+      ∙ children_none maker made (suc made) (λ x p m e. omega (arith, grown.makers x p m))
 
   -- k's children are one more
   raised : (j : ℕ) → k ≡ suc j → (x : ℕ) → children_of maker' (suc made) (suc x) ≡ upd (λ y. children_of maker made (suc y)) j (suc (children_of maker made k)) x
   raised j e x = upd-cases (λ y. children_of maker made (suc y)) (λ c. children_of maker' (suc made) (suc x) ≡ c) j (suc (children_of maker made k)) x
-      (λ q. rw (q, ← e) children-at)
+      (λ q. rw (q, ← e) children_at)
       (λ ne. children_old (suc x) (λ q. ne (omega arith)))
 
   -- one task less is to come
@@ -113,7 +113,7 @@ module _ {L w : ℕ} {maker : ℕ → ℕ} {made : ℕ} (grown : Grown L w maker
       let f : ℕ → ℕ = λ x. children_of maker made (suc x) in
       let g : ℕ → ℕ → ℕ = λ x c. to_come L w (level_of maker L (suc x)) c in
       let old : sum made (below L w maker' (suc made)) ≡ sum made (λ x. g x (upd f j n x)) =
-      sum-ext made (λ x. g x (upd f j n x)) (below L w maker' (suc made)) (λ x m. rw (level_old (suc x) (omega arith) (omega arith), raised j e x) refl) in
+      sum_ext made (λ x. g x (upd f j n x)) (below L w maker' (suc made)) (λ x m. rw (level_old (suc x) (omega arith) (omega arith), raised j e x) refl) in
       let fresh : below L w maker' (suc made) made ≡ w * tree_size w (L - suc (level_of maker L k)) = rw (level_new, children_new) (none_yet L w (suc (level_of maker L k))) in
       let term : to_come L w (level_of maker L (suc j)) (children_of maker made (suc j)) ≡ suc (to_come L w (level_of maker L (suc j)) n + w * tree_size w (L - suc (level_of maker L k))) =
       rw (← e) (one_less L w (level_of maker L k) (children_of maker made k) above fewer) in
@@ -121,14 +121,14 @@ module _ {L w : ℕ} {maker : ℕ → ℕ} {made : ℕ} (grown : Grown L w maker
 
   pub grown_more : Grown L w maker' (suc made)
   grown_more = record {
-    makers = λ x p m. eq-cases x (suc made)
+    makers = λ x p m. eq_cases x (suc made)
         (λ e. rw (e, new) (omega arith))
         (λ ne. rw (agree x p (omega arith)) (grown.makers x p (omega arith)));
-    depth = λ x p m. eq-cases x (suc made)
+    depth = λ x p m. eq_cases x (suc made)
         (λ e. rw (e, level_new) (omega arith))
         (λ ne. rw (level_old x p (omega arith)) (grown.depth x p (omega arith)));
-    width = λ x p m. eq-cases x (suc made)
+    width = λ x p m. eq_cases x (suc made)
         (λ e. rw (e, children_new) (omega arith))
-        (λ ne. eq-cases x k (λ e. rw (e, children-at) (omega arith)) (λ o. rw (children_old x o) (grown.width x p (omega arith))));
+        (λ ne. eq_cases x k (λ e. rw (e, children_at) (omega arith)) (λ o. rw (children_old x o) (grown.width x p (omega arith))));
     size = omega (arith, grown.size, less (k - 1) (omega arith));
   }

@@ -9,8 +9,8 @@ use Rattle.rules.specs.Action.{kill}
 use Rattle.rules.specs.Refusals.{not_there, step_answer}
 use Rattle.rules.proofs.Taken.{step-taken, not-not}
 
-pub kill-range : (t : List ℕ) (p n : ℕ) → places t ≤ 8 → n ≡ step_answer t (kill p) → n ≡ 0 → p < 8
+pub kill_range : (t : List ℕ) (p n : ℕ) → places t ≤ 8 → n ≡ step_answer t (kill p) → n ≡ 0 → p < 8
 unfolding not_there in_session
-kill-range t p n few e z =
+kill_range t p n few e z =
     let low = ltb-true p (places t) (not-not _ (step-taken t (kill p) (sym e ∙ z)).there) in
     omega arith

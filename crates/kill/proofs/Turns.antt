@@ -11,7 +11,7 @@ use Rattle.tables.specs.Bytes.{byte, part, write}
 use Rattle.tables.specs.Layout.{Whole, task_row, book_row, local_row, slot_row}
 use Rattle.tables.specs.Walks.{change_parts}
 use Rattle.tables.proofs.Changes.{Keeps, change_more, byte_change_out}
-use Rattle.tables.proofs.Places.{task-place, book-place, local_place, slot-place}
+use Rattle.tables.proofs.Places.{task-place, book_place_lem, local_place, slot_place_lem}
 use Rattle.tables.proofs.Writes.{byte-part}
 use Rattle.rules.specs.Messages.{message_in, goes_to}
 use Rattle.rules.specs.Kill.{kill_task, kill_finish, kill_book, kill_local, kill_slot}
@@ -34,7 +34,7 @@ pub books_more : (p j at : ℕ) (t u u' : List ℕ) → j < 32 → Whole t → u
     → u' ≡ write u at (kill_book p (part u at 144) 0) → at ≡ 8 * book_row (1 + j) → u' ≡ change_parts (kill_book p) 144 1 (j + 1) 2304 t
 unfolding kill_book
 books_more p j at t u u' h l e q place =
-    change_more (kill_book p) 144 (λ m i k. length-set m 2 _ ∙ k) j 1 2304 at (1 + j) t u u' (omega arith) e q (book-place j at place) refl
+    change_more (kill_book p) 144 (λ m i k. length-set m 2 _ ∙ k) j 1 2304 at (1 + j) t u u' (omega arith) e q (book_place_lem j at place) refl
 
 cleared_keeps : (c : Bool) (w : ℕ) (m : List ℕ) → length m ≡ w → length (cond c (replicate w 0) m) ≡ w
 cleared_keeps true w m h = length-replicate {A = ℕ} w 0
@@ -46,9 +46,9 @@ unfolding kill_local
 locals_more p j at t u u' h l e q place =
     change_more (kill_local p) 24 (λ m y k. cleared_keeps (eqb (y % 8) p) 24 m k) j 0 6912 at j t u u' (omega arith) e q (local_place j at place) (omega arith)
 
-slot-keeps : (t : List ℕ) (p : ℕ) → Keeps (kill_slot t p) 16
+slot_keeps : (t : List ℕ) (p : ℕ) → Keeps (kill_slot t p) 16
 unfolding kill_slot
-slot-keeps t p m s k = cleared_keeps (eqb (goes_to t (message_in m)) p) 16 m k
+slot_keeps t p m s k = cleared_keeps (eqb (goes_to t (message_in m)) p) 16 m k
 
 any_number : (t m : List ℕ) (p s y : ℕ) → kill_slot t p m s ≡ kill_slot t p m y
 unfolding kill_slot
@@ -61,6 +61,6 @@ slots_more p j at t u u' h b l e q place =
     let f = byte (part u at 16) 1 in
     let y : f ≡ byte u (at + 1) = byte-part u at 16 1 (omega arith) in
     let home : byte u (8 * (255 + f) + 0) ≡ byte t (8 * (255 + f) + 0) =
-    ap (λ (r : List ℕ). byte r (8 * (255 + f) + 0)) e ∙ byte_change_out (kill_slot t p) 16 (slot-keeps t p) j 0 13056 (8 * (255 + f) + 0) t (omega arith) (inl (omega arith)) in
-    change_more (kill_slot t p) 16 (slot-keeps t p) j 0 13056 at j t u u' (omega arith) e
-    (q ∙ ap (write u at) (slot_same t u (part u at 16) p 0 home ∙ any_number t (part u at 16) p 0 j)) (slot-place j at place) (omega arith)
+    ap (λ (r : List ℕ). byte r (8 * (255 + f) + 0)) e ∙ byte_change_out (kill_slot t p) 16 (slot_keeps t p) j 0 13056 (8 * (255 + f) + 0) t (omega arith) (inl (omega arith)) in
+    change_more (kill_slot t p) 16 (slot_keeps t p) j 0 13056 at j t u u' (omega arith) e
+    (q ∙ ap (write u at) (slot_same t u (part u at 16) p 0 home ∙ any_number t (part u at 16) p 0 j)) (slot_place_lem j at place) (omega arith)

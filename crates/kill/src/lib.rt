@@ -1,4 +1,6 @@
 // The step kill: all rows of each table walked over with what the loss of a place does to one, and when it is refused.
+#![tactic(auto)]
+
 ghost use Rattle.std.specs.Prelude.{◌≡◌, [], ◌∷◌, ◌≤◌, ◌<◌, eqb, set};
 ghost use Rattle.tables.specs.Bits.{marked, with_mark};
 ghost use Rattle.tables.specs.Walks.{some_of, change_parts};

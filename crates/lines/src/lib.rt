@@ -1,5 +1,7 @@
 // The lines of the programs: a record's of the printed run and a step's of a tree, put into a buffer that the caller lends; a line read;
 // those that say a last incomplete record and the end.
+#![tactic(auto)]
+
 ghost use Rattle.std.specs.Prelude.{◌≡◌, ◌+◌, ◌*◌, ◌^◌, ◌≤◌, ◌<◌, length};
 ghost use Rattle.io.specs.Counts.{IsPrefixLen};
 ghost use Rattle.tables.specs.Bytes.{write};

@@ -10,12 +10,12 @@ use Rattle.rules.specs.Messages.{no_counts}
 use Rattle.rules.specs.End.{less_each}
 
 -- ---- x less y
-less-next : (j : ℕ) (x y : List ℕ) → j < length x → j < length y → less_each (drop j x) (drop j y) ≡ (byte x j - byte y j) ∷ less_each (drop (suc j) x) (drop (suc j) y)
+less_next : (j : ℕ) (x y : List ℕ) → j < length x → j < length y → less_each (drop j x) (drop j y) ≡ (byte x j - byte y j) ∷ less_each (drop (suc j) x) (drop (suc j) y)
 unfolding less_each
-less-next j [] y h g = absurd (omega arith)
-less-next j (a ∷ x) [] h g = absurd (omega arith)
-less-next zero (a ∷ x) (b ∷ y) h g = refl
-less-next (suc j) (a ∷ x) (b ∷ y) h g = less-next j x y (omega arith) (omega arith)
+less_next j [] y h g = absurd (omega arith)
+less_next j (a ∷ x) [] h g = absurd (omega arith)
+less_next zero (a ∷ x) (b ∷ y) h g = refl
+less_next (suc j) (a ∷ x) (b ∷ y) h g = less_next j x y (omega arith) (omega arith)
 
 less_none : (x y : List ℕ) → length x ≡ 8 → less_each (drop 8 x) (drop 8 y) ≡ []
 unfolding less_each
@@ -33,7 +33,7 @@ pub less_eight : (x y : List ℕ) → length x ≡ 8 → length y ≡ 8
     ∷ []
     ≡ less_each x y
 less_eight x y h g =
-    let n : (j : ℕ) → j < 8 → less_each (drop j x) (drop j y) ≡ (byte x j - byte y j) ∷ less_each (drop (suc j) x) (drop (suc j) y) = λ j l. less-next j x y (omega arith) (omega arith) in
+    let n : (j : ℕ) → j < 8 → less_each (drop j x) (drop j y) ≡ (byte x j - byte y j) ∷ less_each (drop (suc j) x) (drop (suc j) y) = λ j l. less_next j x y (omega arith) (omega arith) in
     let first : less_each x y ≡ (byte x 0 - byte y 0) ∷ less_each (drop 1 x) (drop 1 y) = n 0 (omega arith) in
     rw (
       first,

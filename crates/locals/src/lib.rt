@@ -1,4 +1,6 @@
 // Counts by sender, eight by value: the two rows of a local book that hold them, read and written; lowered, compared, and one alone. An end reports by them.
+#![tactic(auto)]
+
 ghost use Rattle.std.specs.Prelude.{◌≡◌, ◌+◌, ◌-◌, ◌*◌, ◌≤◌, ◌<◌, leb, set};
 ghost use Rattle.tables.specs.Bytes.{byte, write};
 ghost use Rattle.tables.specs.Layout.{Whole, local_row};

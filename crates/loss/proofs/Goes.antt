@@ -21,9 +21,9 @@ is_or_not {P} a b same other = go (eqb a b) refl
     go true e = same (eqb-true a b e)
     go false e = other (eqb-false a b e)
 
-goes_tagged : (t : List ℕ) (tag f k v j n : ℕ) (counts : List ℕ) → goes_to t (tagged tag f k v j n counts) ≡ goes_by_tag tag (home t f) v j
+goes-tagged : (t : List ℕ) (tag f k v j n : ℕ) (counts : List ℕ) → goes_to t (tagged tag f k v j n counts) ≡ goes_by_tag tag (home t f) v j
 unfolding tagged goes_to goes_by_tag
-goes_tagged t tag f k v j n counts =
+goes-tagged t tag f k v j n counts =
     is_or_not tag 1 (λ e. rw e refl)
     (λ n1. is_or_not tag 2 (λ e. rw e refl)
     (λ n2. is_or_not tag 3 (λ e. rw e refl)
@@ -39,7 +39,7 @@ goes_tagged t tag f k v j n counts =
 
 pub goes_in : (t m : List ℕ) → goes_to t (message_in m) ≡ goes_by_tag (byte m 0) (home t (byte m 1)) (byte m 3) (byte m 4)
 unfolding message_in
-goes_in t m = goes_tagged t (byte m 0) (byte m 1) (byte m 2) (byte m 3) (byte m 4) (byte m 5) _
+goes_in t m = goes-tagged t (byte m 0) (byte m 1) (byte m 2) (byte m 3) (byte m 4) (byte m 5) _
 
 pub slot_same : (t u m : List ℕ) (p s : ℕ) → home u (byte m 1) ≡ home t (byte m 1) → kill_slot u p m s ≡ kill_slot t p m s
 unfolding kill_slot

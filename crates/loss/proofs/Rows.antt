@@ -15,12 +15,12 @@ byte-first : (t : List ℕ) (k n : ℕ) → 0 < n → byte (part t k n) 0 ≡ by
 byte-first t k n h = byte-part t k n 0 h ∙ ap (byte t) (add-zero k)
 
 -- a test of a row, by its bytes in the tables
-pub task_test : (t : List ℕ) (at p : ℕ)
+pub task_test_lem : (t : List ℕ) (at p : ℕ)
     → loses_task p (byte (part t at 8) 0) (byte (part t at 8) 1) (byte (part t at 8) 3) ≡ loses_task p (byte t at) (byte t (at + 1)) (byte t (at + 3))
-task_test t at p = rw (byte-first t at 8 (omega arith), byte-part t at 8 1 (omega arith), byte-part t at 8 3 (omega arith)) refl
+task_test_lem t at p = rw (byte-first t at 8 (omega arith), byte-part t at 8 1 (omega arith), byte-part t at 8 3 (omega arith)) refl
 
-pub finish_test : (t : List ℕ) (at p : ℕ) → loses_finish p (byte (part t at 8) 0) (byte (part t at 8) 3) ≡ loses_finish p (byte t at) (byte t (at + 3))
-finish_test t at p = rw (byte-first t at 8 (omega arith), byte-part t at 8 3 (omega arith)) refl
+pub finish_test_lem : (t : List ℕ) (at p : ℕ) → loses_finish p (byte (part t at 8) 0) (byte (part t at 8) 3) ≡ loses_finish p (byte t at) (byte t (at + 3))
+finish_test_lem t at p = rw (byte-first t at 8 (omega arith), byte-part t at 8 3 (omega arith)) refl
 
 pub slot_goes : (t : List ℕ) (at : ℕ)
     → goes_to t (message_in (part t at 16)) ≡ goes_by_tag (byte t at) (byte t (8 * (255 + byte t (at + 1)))) (byte t (at + 3)) (byte t (at + 4))

@@ -1,4 +1,6 @@
 // What the loss of a place does to one row: a task, a finish, a store book, a local book, a slot.
+#![tactic(auto)]
+
 ghost use Rattle.std.specs.Prelude.{◌≡◌, [], ◌∷◌, ◌+◌, ◌≤◌, ◌<◌, eqb, length};
 ghost use Rattle.tables.specs.Bytes.{byte, part, write};
 ghost use Rattle.tables.specs.Walks.{every, some_of};

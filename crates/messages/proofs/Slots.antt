@@ -17,16 +17,16 @@ use Rattle.rules.specs.Messages.{message, bytes_of, report, slot_place, from_slo
 use Rattle.messages.specs.declared.Found.{Found}
 use Rattle.messages.specs.Found.{found_at}
 
-pub from-slot : (t : List ℕ) (s : ℕ) → from_slot t s ≡ drop (slot_place s) t
+pub from_slot_lem : (t : List ℕ) (s : ℕ) → from_slot t s ≡ drop (slot_place s) t
 unfolding from_slot
-from-slot t s = let e : 13056 + 16 * s ≡ slot_place s = omega arith in drop-drop (16 * s) 13056 t ∙ ap (λ (k : ℕ). drop k t) e
+from_slot_lem t s = let e : 13056 + 16 * s ≡ slot_place s = omega arith in drop-drop (16 * s) 13056 t ∙ ap (λ (k : ℕ). drop k t) e
 
-pub byte-from-slot : (t : List ℕ) (s column : ℕ) → byte (from_slot t s) column ≡ byte t (slot_place s + column)
-byte-from-slot t s column = ap (λ (m : List ℕ). byte m column) (from-slot t s) ∙ get_or-drop (slot_place s) t column 0
+pub byte_from_slot : (t : List ℕ) (s column : ℕ) → byte (from_slot t s) column ≡ byte t (slot_place s + column)
+byte_from_slot t s column = ap (λ (m : List ℕ). byte m column) (from_slot_lem t s) ∙ get_or-drop (slot_place s) t column 0
 
-pub part-from-slot : (t : List ℕ) (s k n : ℕ) → part (from_slot t s) k n ≡ part t (slot_place s + k) n
+pub part_from_slot : (t : List ℕ) (s k n : ℕ) → part (from_slot t s) k n ≡ part t (slot_place s + k) n
 unfolding part
-part-from-slot t s k n = ap (λ (m : List ℕ). take n (drop k m)) (from-slot t s) ∙ ap (take n) (drop-drop k (slot_place s) t)
+part_from_slot t s k n = ap (λ (m : List ℕ). take n (drop k m)) (from_slot_lem t s) ∙ ap (take n) (drop-drop k (slot_place s) t)
 
 -- the two rows of a report
 pub report_put : (t u x : List ℕ) (at s f v : ℕ) (counts : List ℕ) → at ≡ 8 * slot_row s → u ≡ write t at (7 ∷ f ∷ 0 ∷ v ∷ 0 ∷ 0 ∷ 0 ∷ 0 ∷ []) → x ≡ write u (at + 8) counts
@@ -43,18 +43,18 @@ pub found_none : (n : ℕ) → 128 ≡ n → Found.Nothing ≡ found_at n
 unfolding found_at
 found_none n e = rw (eq-eqb n 128 (sym e)) refl
 
-pub found-at : (s n : ℕ) → s < 128 → s ≡ n → Found.At s ≡ found_at n
+pub found_at_lem : (s n : ℕ) → s < 128 → s ≡ n → Found.At s ≡ found_at n
 unfolding found_at
-found-at s n h e = rw (ne_eqb n 128 (λ q. omega arith)) (ap Found.At e)
+found_at_lem s n h e = rw (ne_eqb n 128 (λ q. omega arith)) (ap Found.At e)
 
 told : (n s : ℕ) (c : Bool) → eqb n 128 ≡ c → cond c Found.Nothing (Found.At n) ≡ Found.At s → (n ≡ s) × (eqb n 128 ≡ false)
 told n s true q e = let z : ◌≡◌ {A = ℕ} 0 1 = cc in absurd (omega arith)
 told n s false q e = (cc, q)
 
 -- a slot found is the lowest empty one, and a slot
-pub found-slot : (t : List ℕ) (s : ℕ) → found_at (lowest_empty t) ≡ Found.At s → (lowest_empty t ≡ s) × (s < 128)
+pub found_slot : (t : List ℕ) (s : ℕ) → found_at (lowest_empty t) ≡ Found.At s → (lowest_empty t ≡ s) × (s < 128)
 unfolding found_at lowest_empty
-found-slot t s e =
+found_slot t s e =
     let r = told (lowest_empty t) s (eqb (lowest_empty t) 128) refl e in
     let ne = eqb-false (lowest_empty t) 128 r.1 in
     let most = (first_range is_empty 16 128 0 (drop (slot_place 0) t)).1 in

@@ -1,4 +1,6 @@
 // The 128 slots: the lowest empty one, a message read and written, and what is in flight; with it, the tasks that run.
+#![tactic(auto)]
+
 ghost use Rattle.std.specs.Prelude.{false, ◌≡◌, ◌+◌, ◌≤◌, ◌<◌, length, drop};
 ghost use Rattle.tables.specs.Bytes.{byte, part, write};
 ghost use Rattle.tables.specs.Bits.{digit};

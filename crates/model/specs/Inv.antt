@@ -20,20 +20,20 @@ pub record InvBut (x : ℕ) (s : State) : Type 0 where
   pub places : Places s
   pub dead-places : DeadPlaces s
   pub task_ranges : TaskRanges s
-  pub main-tasks : MainTasks s
-  pub sent-tasks : SentTasks s
+  pub main_tasks : MainTasks s
+  pub sent_tasks : SentTasks s
   pub task_statuses : TaskStatuses s
   pub main_statuses : MainStatuses s
-  pub status-made : StatusMade s
-  pub sent-made : SentMade s
+  pub status_made : StatusMade s
+  pub sent_made : SentMade s
   pub finish_ranges : FinishRanges s
   pub root : Root s
   pub opened : Opened s
   pub mains : Mains s
   pub finish_statuses : FinishStatuses s
-  pub published_mark : PublishedMark s
-  pub finish-made : FinishMade s
-  pub published-made : PublishedMade s
+  pub published_mark_lem : PublishedMark s
+  pub finish_made_lem : FinishMade s
+  pub published_made : PublishedMade s
   pub blank_finishes : BlankFinishes s
   -- Statuses
   pub active : Active s
@@ -44,29 +44,29 @@ pub record InvBut (x : ℕ) (s : State) : Type 0 where
   pub dead-home : DeadHome s
   pub busy : Busy s
   pub waiters : Waiters s
-  pub lost-tasks : LostTasks s
+  pub lost_tasks : LostTasks s
   pub first-task : FirstTask s
   pub first-lost : FirstLost s
   pub blocked : Blocked s
   -- Messages
   pub tags : Tags s
   pub names_finish : NamesFinish s
-  pub names_task : NamesTask s
-  pub names_pair : NamesPair s
-  pub names_places : NamesPlaces s
+  pub names-task : NamesTask s
+  pub names-pair : NamesPair s
+  pub names-places : NamesPlaces s
   pub publishes : Publishes s
   pub published : Published s
   pub publish_once : PublishOnce s
   pub publish_some : PublishSome s
   pub transits : Transits s
-  pub lost-transits : LostTransits s
+  pub lost_transits : LostTransits s
   pub on_wire : OnWire s
   pub late : Late s
   pub named_once : NamedOnce s
   pub named_publish : NamedPublish s
   pub named_transit : NamedTransit s
   pub report-counts : ReportCounts s
-  pub report-book : ReportBook s
+  pub report_book : ReportBook s
   pub release_some : ReleaseSome s
   pub release-none : ReleaseNone s
   pub ghosts : Ghosts s
@@ -75,19 +75,19 @@ pub record InvBut (x : ℕ) (s : State) : Type 0 where
   pub asks : Asks s
   pub questions : Questions s
   pub fresh_messages : FreshMessages s
-  pub fresh-locals : FreshLocals s
-  pub fresh-book : FreshBook s
+  pub fresh_locals : FreshLocals s
+  pub fresh_book : FreshBook s
   -- Books
   pub present_mark : PresentMark s
   pub due_mark : DueMark s
   pub adopted_mark : AdoptedMark s
-  pub book-made : BookMade s
-  pub book-unreleased : BookUnreleased s
-  pub active-book : ActiveBook s
-  pub book-counts : BookCountsBut x s
-  pub due-column : DueColumn s
-  pub book-parent : BookParent s
-  pub adopted-dead : AdoptedDead s
+  pub book_made : BookMade s
+  pub book_unreleased : BookUnreleased s
+  pub active_book : ActiveBook s
+  pub book_counts : BookCountsBut x s
+  pub due_column : DueColumn s
+  pub book_parent_lem : BookParent s
+  pub adopted_dead : AdoptedDead s
   pub orphans : Orphans s
   pub book_above : BookAbove s
   pub skipped : Skipped s
@@ -98,17 +98,17 @@ pub record InvBut (x : ℕ) (s : State) : Type 0 where
   pub no_answer : NoAnswer s
   pub marked : Marked s
   pub asked-dead : AskedDead s
-  pub sent-from : SentFrom s
-  pub sent-most : SentMost s
-  pub not-from_self : NotFromSelf s
-  pub sent-book : SentBook s
-  pub sent-tasks-most : SentTasksMost s
+  pub sent_from : SentFrom s
+  pub sent_most : SentMost s
+  pub not_from_self : NotFromSelf s
+  pub sent_book : SentBook s
+  pub sent_tasks_most : SentTasksMost s
   -- Locals
   pub local_live_lem : LocalLive s
-  pub reported-most : ReportedMost s
+  pub reported_most : ReportedMost s
   pub pending : Pending s
   pub unreported : Unreported s
-  pub reports-most : ReportsMost s
+  pub reports_most : ReportsMost s
   pub denied-dead : DeniedDead s
   pub local_book : LocalBook s
 

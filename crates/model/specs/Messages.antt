@@ -1,7 +1,7 @@
 -- The eleven messages with their fields, where each goes, and how messages of a tag are counted.
 use Rattle.std.specs.Prelude.{◌≡◌, Bool, false, cond, ◌||◌, ℕ, ◌+◌, ◌<◌, eqb}
 use Rattle.std.proofs.Common.{arith, eq-eqb, ne_eqb}
-use Rattle.model.specs.Base.{upd, upd_same, upd_other, on, on-true, on-false, on_zero, is₂, is₃, sum, sum-upd, sum-zero, eq-cases}
+use Rattle.model.specs.Base.{upd, upd_same, upd_other, on, on_true, on_false, on_zero, is₂, is₃, sum, sum-upd, sum_zero, eq_cases}
 use Rattle.model.specs.State.{State, Message, with_slot}
 
 -- A slot emptied is all 0.
@@ -58,15 +58,15 @@ tally t m b n = on (eqb m.tag t) (on b n)
 
 pub tally_else : (t : ℕ) (m : Message) (b : Bool) (n : ℕ) → (m.tag ≡ t → ⊥) → tally t m b n ≡ 0
 unfolding tally
-tally_else t m b n h = on-false (eqb m.tag t) (on b n) (ne_eqb m.tag t h)
+tally_else t m b n h = on_false (eqb m.tag t) (on b n) (ne_eqb m.tag t h)
 
 pub tally_is : (t : ℕ) (m : Message) (b : Bool) (n : ℕ) → m.tag ≡ t → tally t m b n ≡ on b n
 unfolding tally
-tally_is t m b n e = on-true (eqb m.tag t) (on b n) (eq-eqb m.tag t e)
+tally_is t m b n e = on_true (eqb m.tag t) (on b n) (eq-eqb m.tag t e)
 
 pub tally_away : (t : ℕ) (m : Message) (b : Bool) (n : ℕ) → b ≡ false → tally t m b n ≡ 0
 unfolding tally
-tally_away t m b n e = rw (on-false b n e) (on_zero (eqb m.tag t))
+tally_away t m b n e = rw (on_false b n e) (on_zero (eqb m.tag t))
 
 -- the sum over the slots of what their messages of tag t count for
 abbrev pub tallied : State → ℕ → (Message → Bool) → (Message → ℕ) → ℕ
@@ -94,23 +94,23 @@ endings s q g = tallied s 9 (λ m. is₂ m.finish m.number q g) (λ m. 1)
 
 -- a message m written into slot k
 module _ (s : State) (k : ℕ) (m : Message) (in-range : k < s.slots) where
-  pub tallied-moves : (t : ℕ) (b : Message → Bool) (n : Message → ℕ)
+  pub tallied_moves : (t : ℕ) (b : Message → Bool) (n : Message → ℕ)
       → tallied (with_slot (upd s.slot k m) s) t b n + tally t (s.slot k) (b (s.slot k)) (n (s.slot k)) ≡ tallied s t b n + tally t m (b m) (n m)
-  tallied-moves t b n = sum-upd s.slots (λ _ m. tally t m (b m) (n m)) s.slot k m in-range
+  tallied_moves t b n = sum-upd s.slots (λ _ m. tally t m (b m) (n m)) s.slot k m in-range
 
   -- the tag is neither that of the old message nor that of the new
   pub tallied_same : (t : ℕ) (b : Message → Bool) (n : Message → ℕ) → ((s.slot k).tag ≡ t → ⊥) → (m.tag ≡ t → ⊥)
       → tallied (with_slot (upd s.slot k m) s) t b n ≡ tallied s t b n
   tallied_same t b n h g =
-      omega (arith, tallied-moves t b n, tally_else t (s.slot k) (b (s.slot k)) (n (s.slot k)) h, tally_else t m (b m) (n m) g)
+      omega (arith, tallied_moves t b n, tally_else t (s.slot k) (b (s.slot k)) (n (s.slot k)) h, tally_else t m (b m) (n m) g)
 
 -- where slot k was written anew, with a message of another tag, a message of tag n is in another slot, and as it was
 pub elsewhere : {n : ℕ} (slot : ℕ → Message) (k : ℕ) (m : Message) (l : ℕ) → (upd slot k m l).tag ≡ n → (m.tag ≡ n → ⊥) → (l ≡ k → ⊥) × (upd slot k m l ≡ slot l)
-elsewhere {n} slot k m l e no-n = eq-cases l k
+elsewhere {n} slot k m l e no-n = eq_cases l k
     (λ q. absurd (no-n (rw (q, upd_same) at e)))
     (λ ne. (ne, upd_other slot k m l ne))
 
 -- no message in flight
 pub tallied-none : (s : State) → ((k : ℕ) → k < s.slots → (s.slot k).tag ≡ 0) → (t : ℕ) (b : Message → Bool) (n : Message → ℕ) → 0 < t → tallied s t b n ≡ 0
-tallied-none s empty t b n h = sum-zero s.slots (λ k. tally t (s.slot k) (b (s.slot k)) (n (s.slot k)))
+tallied-none s empty t b n h = sum_zero s.slots (λ k. tally t (s.slot k) (b (s.slot k)) (n (s.slot k)))
     (λ k l. tally_else t (s.slot k) (b (s.slot k)) (n (s.slot k)) (λ e. omega (arith, empty k l)))

@@ -4,29 +4,29 @@ use Rattle.model.specs.State.{State}
 use Rattle.model.specs.Nesting.{Nearest}
 use Rattle.model.specs.Guards.{Runs, HasBook, Free, Full, MayRun, Repaired, Discarded}
 use Rattle.model.specs.Effects.Begin.{begun}
-use Rattle.model.specs.Effects.Spawn.{spawnFirst, spawnLater}
+use Rattle.model.specs.Effects.Spawn.{spawn_first, spawn_later}
 use Rattle.model.specs.Effects.Open.{open_finish}
 use Rattle.model.specs.Effects.End.{end_unpublished, end_published, end_other, end_last}
 use Rattle.model.specs.Effects.Kill.{kill}
 use Rattle.model.specs.Effects.Repair.{adopt, cancel, ask}
 use Rattle.model.specs.Effects.Closing.{Closing}
-use Rattle.model.specs.Effects.Deliver.{empty, deliver_publish, deliver_published, deliver_transit, refuseTransit, deliver_granted, loseGranted, deliver_denied, deliver_task, deliver_report, deliver_release, deliver_ghost_ended, deliver_count_dropped, deliver_dropped}
+use Rattle.model.specs.Effects.Deliver.{empty, deliver_publish, deliver_published, deliver_transit, refuse_transit, deliver_granted, lose_granted, deliver_denied, deliver_task, deliver_report, deliver_release, deliver_ghost_ended, deliver_count_dropped, deliver_dropped}
 
 -- spawn: to another place; a main task's finish active. First: a main task whose finish is unpublished
 pub data Spawn (s : State) (t p : ℕ) : State → Type 0 where
-  spawns-first : (k : ℕ) → Runs s t → p < s.places → (s.tasks.at t ≡ p → ⊥) → Free s k
+  spawns_first : (k : ℕ) → Runs s t → p < s.places → (s.tasks.at t ≡ p → ⊥) → Free s k
       → s.tasks.sent t ≡ 0 → s.finishes.published (s.tasks.finish t) ≡ 0 → s.finishes.status (s.tasks.finish t) ≡ 1
-      → Spawn s t p (spawnFirst s t p k)
+      → Spawn s t p (spawn_first s t p k)
   spawns_later : (k : ℕ) → Runs s t → p < s.places → (s.tasks.at t ≡ p → ⊥) → Free s k
       → (s.tasks.sent t ≡ 0 → (s.finishes.published (s.tasks.finish t) ≡ 0 → ⊥) × (s.finishes.status (s.tasks.finish t) ≡ 1))
-      → Spawn s t p (spawnLater s t p k)
+      → Spawn s t p (spawn_later s t p k)
 
 pub data End (s : State) (t : ℕ) : State → Type 0 where
   -- end of a main task: its finish active; unpublished, an opener about to run is blocked
   ends_unpublished : Runs s t → s.tasks.sent t ≡ 0
       → s.finishes.published (s.tasks.finish t) ≡ 0 → s.finishes.status (s.tasks.finish t) ≡ 1 → MayRun s (s.finishes.opener (s.tasks.finish t))
       → End s t (end_unpublished s t)
-  ends-published : (k : ℕ) → Runs s t → s.tasks.sent t ≡ 0
+  ends_published : (k : ℕ) → Runs s t → s.tasks.sent t ≡ 0
       → (s.finishes.published (s.tasks.finish t) ≡ 0 → ⊥) → s.finishes.status (s.tasks.finish t) ≡ 1 → Free s k
       → End s t (end_published s t k)
   -- end of another task
@@ -65,14 +65,14 @@ pub data Settle (s : State) : State → Type 0 where
   delivers_transit : (k : ℕ) → Full s k 3 → s.dead (s.slot k).from ≡ false → s.books.present (s.slot k).finish ≡ 1 → Repaired s (s.slot k).finish
       → s.dead (s.slot k).to ≡ false → Settle s (deliver_transit s k)
   refuses_transit : (k : ℕ) → Full s k 3 → s.dead (s.slot k).from ≡ false → s.books.present (s.slot k).finish ≡ 1 → Repaired s (s.slot k).finish
-      → s.dead (s.slot k).to ≡ true → Settle s (refuseTransit s k)
+      → s.dead (s.slot k).to ≡ true → Settle s (refuse_transit s k)
   -- 4: from alive, task status 2, its spawner blocked; to alive, or dead
   delivers_granted : (k : ℕ) → Full s k 4 → s.dead (s.slot k).from ≡ false
       → s.tasks.status (s.slot k).task ≡ 2 → MayRun s (s.tasks.maker (s.slot k).task)
       → s.dead (s.slot k).to ≡ false → Settle s (deliver_granted s k)
-  loses-granted : (k : ℕ) → Full s k 4 → s.dead (s.slot k).from ≡ false
+  loses_granted : (k : ℕ) → Full s k 4 → s.dead (s.slot k).from ≡ false
       → s.tasks.status (s.slot k).task ≡ 2 → MayRun s (s.tasks.maker (s.slot k).task)
-      → s.dead (s.slot k).to ≡ true → Settle s (loseGranted s k)
+      → s.dead (s.slot k).to ≡ true → Settle s (lose_granted s k)
   -- 5: from alive, task status 2, its spawner blocked
   delivers_denied : (k : ℕ) → Full s k 5 → s.dead (s.slot k).from ≡ false
       → s.tasks.status (s.slot k).task ≡ 2 → MayRun s (s.tasks.maker (s.slot k).task)

@@ -1,7 +1,7 @@
 -- What a row of a status counts for in the sums over tasks and finishes.
 use Rattle.std.specs.Prelude.{◌≡◌, refl, Bool, true, false, ◌&&◌, ℕ, suc, ◌≤◌, ◌<◌, leb}
 use Rattle.std.proofs.Common.{arith, le-leb, leb-true}
-use Rattle.model.specs.Base.{on, on-true, on-false, on_zero, on-cases, and_left, and_right, bool_cases, sum, is₂}
+use Rattle.model.specs.Base.{on, on_true, on_false, on_zero, on-cases, and_left, and_right, bool_cases, sum, is₂}
 use Rattle.model.specs.State.{State}
 
 -- 1 for a row that passes a test of its key, with a status from lo to hi
@@ -10,17 +10,17 @@ weigh b lo hi v = on b (on (leb lo v && leb v hi) 1)
 
 pub weigh_in : (b : Bool) (lo hi v : ℕ) → lo ≤ v → v ≤ hi → weigh b lo hi v ≡ on b 1
 unfolding weigh
-weigh_in b lo hi v p q = rw (le-leb lo v p, le-leb v hi q, on-true true 1 refl)
+weigh_in b lo hi v p q = rw (le-leb lo v p, le-leb v hi q, on_true true 1 refl)
 
 pub weigh_out : (b : Bool) (lo hi v : ℕ) → (lo ≤ v → v ≤ hi → ⊥) → weigh b lo hi v ≡ 0
 unfolding weigh
 weigh_out b lo hi v n = bool_cases (leb lo v && leb v hi)
     (λ e. absurd (n (leb-true lo v (and_left (leb lo v) (leb v hi) e)) (leb-true v hi (and_right (leb lo v) (leb v hi) e))))
-    (λ e. rw (on-false (leb lo v && leb v hi) 1 e) (on_zero b))
+    (λ e. rw (on_false (leb lo v && leb v hi) 1 e) (on_zero b))
 
 pub weigh_off : (b : Bool) (lo hi v : ℕ) → b ≡ false → weigh b lo hi v ≡ 0
 unfolding weigh
-weigh_off b lo hi v e = on-false b (on (leb lo v && leb v hi) 1) e
+weigh_off b lo hi v e = on_false b (on (leb lo v && leb v hi) 1) e
 
 pub weigh-le : (b : Bool) (lo hi v : ℕ) → weigh b lo hi v ≤ on b 1
 unfolding weigh on

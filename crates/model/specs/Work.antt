@@ -2,7 +2,7 @@
 use Rattle.std.specs.Prelude.{Bool, false, cond, ◌&&◌, ◌||◌, not, ℕ, suc, ◌+◌, ◌*◌, eqb}
 use Rattle.model.specs.Base.{on, sum}
 use Rattle.model.specs.State.{State}
-use Rattle.model.specs.Effects.Kill.{emptyColumn}
+use Rattle.model.specs.Effects.Kill.{empty_column}
 
 -- How far a message has to go: 1 → 2 → 3 → 4 → 6 and 10 → 11; every other tag goes no further.
 unfoldable pub way : ℕ → ℕ
@@ -17,7 +17,7 @@ unasked n dead asked = sum n (λ i. sum n (λ j. on (dead i && (not (dead j) && 
 
 -- dead places whose column is not all 0
 unfoldable pub dead_columns : ℕ → (ℕ → Bool) → (ℕ → ℕ → ℕ) → ℕ
-dead_columns n dead live = sum n (λ v. on (dead v && not (emptyColumn n live v)) 1)
+dead_columns n dead live = sum n (λ v. on (dead v && not (empty_column n live v)) 1)
 
 -- a finish that may yet get a book: unpublished, active or publishing
 unfoldable pub fresh : ℕ → ℕ → Bool

@@ -15,24 +15,24 @@ use Rattle.rules.specs.Step.{step}
 use Rattle.rules.specs.Refusals.{not_there, wrong_place, not_ready, must_wait, no_room, unwanted, first_of, step_refusals, step_answer}
 
 module _ (t : List ℕ) (n : ℕ) where
-  pub begin-low : n < 2 → 2 ≡ step_answer t (begin n)
+  pub begin_low : n < 2 → 2 ≡ step_answer t (begin n)
   unfolding step_answer step_refusals first_of not_there every
-  begin-low h = rw (lt-leb 2 n h)
+  begin_low h = rw (lt-leb 2 n h)
 
-  pub begin-high : 8 < n → 2 ≤ n → 2 ≡ step_answer t (begin n)
+  pub begin_high : 8 < n → 2 ≤ n → 2 ≡ step_answer t (begin n)
   unfolding step_answer step_refusals first_of not_there every
-  begin-high h g = rw (le-leb 2 n g, lt-leb n 8 h)
+  begin_high h g = rw (le-leb 2 n g, lt-leb n 8 h)
 
-  pub begin-fits : n ≤ 8 → 2 ≤ n → 0 ≡ step_answer t (begin n)
+  pub begin_fits : n ≤ 8 → 2 ≤ n → 0 ≡ step_answer t (begin n)
   unfolding step_answer step_refusals first_of not_there wrong_place not_ready must_wait no_room unwanted every
-  begin-fits h g = rw (le-leb 2 n g, le-leb n 8 h)
+  begin_fits h g = rw (le-leb 2 n g, le-leb n 8 h)
 
   pub begin_small : (r : ℕ) → r ≡ step_answer t (begin n) → r ≡ 0 → n ≤ 8
   begin_small r e z = go (leb n 8) refl
     where
       go : (v : Bool) → leb n 8 ≡ v → n ≤ 8
       go true q = leb-true n 8 q
-      go false q = let h = leb-false n 8 q in let two = begin-high h (omega arith) in absurd (omega (arith, two, e, z))
+      go false q = let h = leb-false n 8 q in let two = begin_high h (omega arith) in absurd (omega (arith, two, e, z))
 
   -- it takes the step that the rules give
   pub begins : (u : List ℕ) → u ≡ begin_step n → u ≡ step t (begin n)

@@ -1,4 +1,6 @@
 // The two steps that send nothing and make new rows: begin, and a task that opens a finish.
+#![tactic(auto)]
+
 ghost use Rattle.std.specs.Prelude.{◌≡◌};
 ghost use Rattle.tables.specs.Layout.{Whole};
 ghost use Rattle.rules.specs.Action.{open_finish, begin};

@@ -25,20 +25,20 @@ digits_most (suc room) n k one low = by_test (ltb n 10)
     rw e (omega (arith, length-append (decimal room (n / 10)) ((48 + n % 10) ∷ []), digits_most room (n / 10) (k - 1) fewer.0 fewer.1)))
 
 -- a digit, a space, and what follows
-word-most : (n : ℕ) (m : List ℕ) (k : ℕ) → n < 10 → length m ≤ k → length (decimal 20 n ++ (32 ∷ m)) ≤ 2 + k
-word-most n m k low rest =
+word_most : (n : ℕ) (m : List ℕ) (k : ℕ) → n < 10 → length m ≤ k → length (decimal 20 n ++ (32 ∷ m)) ≤ 2 + k
+word_most n m k low rest =
     let e : 10 ^ 1 ≡ 10 = refl in
     omega (arith, length-append (decimal 20 n) (32 ∷ m), digits_most 20 n 1 (omega arith) (omega arith))
 
-spelled-most : (p : Plan) → fits p ≡ true → length (spelled p) ≤ 13
+spelled_most : (p : Plan) → fits p ≡ true → length (spelled p) ≤ 13
 unfolding spelled
-spelled-most p fit =
+spelled_most p fit =
     let r = ranges p fit in
     let e : 10 ^ 5 ≡ 100000 = refl in
-    word-most p.levels _ 11 (omega (arith, r.levels.1))
-    (word-most p.width _ 9 (omega (arith, r.width.1))
-    (word-most p.places _ 7 (omega (arith, r.places.1))
-    (word-most p.victim _ 5 (omega (arith, r.victim, r.places.1)) (digits_most 20 p.killstep 5 (omega arith) (omega (arith, r.killstep))))))
+    word_most p.levels _ 11 (omega (arith, r.levels.1))
+    (word_most p.width _ 9 (omega (arith, r.width.1))
+    (word_most p.places _ 7 (omega (arith, r.places.1))
+    (word_most p.victim _ 5 (omega (arith, r.victim, r.places.1)) (digits_most 20 p.killstep 5 (omega arith) (omega (arith, r.killstep))))))
 
 -- the first line of the first n bytes is no longer than that of all, and the same if it ends in them
 line_short : (n : ℕ) (l : List ℕ) → length (first_line (take n l)) ≤ length (first_line l)
@@ -58,7 +58,7 @@ line_cut (suc n) (b ∷ l) h = by_test (eqb b 10)
 -- what is read of the first n bytes, 14 or more, is what is read of all
 pub reads_cut : (n : ℕ) (input : List ℕ) (r : Plan) → 14 ≤ n → ReadsAs (take n input) r → ReadsAs input r
 reads_cut n input r enough reads = record {
-  accepted = λ fit. let e = reads.accepted fit in sym (line_cut n input (omega (arith, ap length e, spelled-most r fit))) ∙ e;
-  complete = λ p fit e. reads.complete p fit (line_cut n input (omega (arith, line_short n input, ap length e, spelled-most p fit)) ∙ e);
+  accepted = λ fit. let e = reads.accepted fit in sym (line_cut n input (omega (arith, ap length e, spelled_most r fit))) ∙ e;
+  complete = λ p fit e. reads.complete p fit (line_cut n input (omega (arith, line_short n input, ap length e, spelled_most p fit)) ∙ e);
   refused = reads.refused;
 }

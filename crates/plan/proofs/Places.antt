@@ -19,8 +19,8 @@ use Rattle.plan.proofs.Spelling.{digit_is, goes_is, reads_end}
 pub digit-taken : (d : Bool) (b : ℕ) → d ≡ is_digit b → d ≡ true → (0 ≤ 65535) × (48 ≤ b)
 digit-taken d b e h = (omega arith, (digit_is b (sym e ∙ h)).0)
 
-pub goes_taken : (g : Bool) (v b : ℕ) → g ≡ goes_on v b → g ≡ true → (v ≤ 65535) × (48 ≤ b)
-goes_taken g v b e h = let r = goes_is v b (sym e ∙ h) in (r.0.1, r.1.0)
+pub goes-taken : (g : Bool) (v b : ℕ) → g ≡ goes_on v b → g ≡ true → (v ≤ 65535) × (48 ≤ b)
+goes-taken g v b e h = let r = goes_is v b (sym e ∙ h) in (r.0.1, r.1.0)
 
 module _ (t : List ℕ) where
   left : (i : ℕ) → i < length t → drop i t ≡ byte t i ∷ drop (i + 1) t
@@ -51,9 +51,9 @@ module _ (t : List ℕ) where
         let z : number_of (drop at t) ≡ read_on v (drop (at + 1) t) = rw (q, left at h, sym e ∙ y) refl in
         rw z f
 
-    pub begins-not : (d : Bool) → at < length t → d ≡ is_digit (byte t at) → d ≡ false → Found t (number_of (drop at t)) (record { value = no_number; end = at })
+    pub begins_not : (d : Bool) → at < length t → d ≡ is_digit (byte t at) → d ≡ false → Found t (number_of (drop at t)) (record { value = no_number; end = at })
     unfolding number_of
-    begins-not d h e n =
+    begins_not d h e n =
         let z : number_of (drop at t) ≡ (no_number, drop at t) = rw (left at h, sym e ∙ n) refl in
         rw z (refl, (refl, omega arith))
 
@@ -127,13 +127,13 @@ module _ (t : List ℕ) where
         let s : take (i + 1) t ≡ take i t ++ (byte t i ∷ []) = rw (add-one i) (take-suc t i 0 h) in
         e ∙ ap (λ (l : List ℕ). take i t ++ l) z ∙ rw s (sym (append_snoc (take i t) (byte t i) (first_line (drop (i + 1) t))))
 
-    ends-here : first_line (drop i t) ≡ [] → first_line t ≡ take i t
-    ends-here z = e ∙ rw z (append-nil (take i t))
+    ends_here : first_line (drop i t) ≡ [] → first_line t ≡ take i t
+    ends_here z = e ∙ rw z (append-nil (take i t))
 
     pub line_stops : i < length t → byte t i ≡ 10 → first_line t ≡ take i t
     unfolding first_line
-    line_stops h y = ends-here (rw (left i h, eq-eqb (byte t i) 10 y) refl)
+    line_stops h y = ends_here (rw (left i h, eq-eqb (byte t i) 10 y) refl)
 
     pub line_past : length t ≤ i → first_line t ≡ take i t
     unfolding first_line
-    line_past h = ends-here (rw (drop_of_length-le t h) refl)
+    line_past h = ends_here (rw (drop_of_length-le t h) refl)

@@ -1,4 +1,6 @@
 // The line that the program tree is given, read into its five numbers.
+#![tactic(auto)]
+
 ghost use Rattle.std.specs.Prelude.{◌≡◌, ◌≤◌, ◌<◌, length, drop, take};
 ghost use Rattle.plan.specs.Tree.{tree_size};
 ghost use Rattle.plan.specs.Plan.{fits, first_line, ReadsAs};

@@ -18,10 +18,10 @@ use Rattle.model.specs.Step.{Settle, Spawn}
 use Rattle.promises.specs.View.{view}
 use Rattle.promises.specs.Settling.{record_of, is_settling}
 use Rattle.promises.proofs.Moved.{Moved}
-use Rattle.promises.proofs.StepSpawn.{spawn-moves}
-use Rattle.promises.proofs.StepEnd.{end-moves}
-use Rattle.promises.proofs.StepRepair.{kill-moves, adopt-moves, cancel-moves, ask-moves}
-use Rattle.promises.proofs.Steps.{deliver-moves}
+use Rattle.promises.proofs.StepSpawn.{spawn_moves}
+use Rattle.promises.proofs.StepEnd.{end_moves}
+use Rattle.promises.proofs.StepRepair.{kill_moves, adopt_moves, cancel_moves, ask_moves}
+use Rattle.promises.proofs.Steps.{deliver_moves}
 use Rattle.promises.proofs.Good.{Good}
 use Rattle.promises.proofs.SoundTables.{good_held}
 use Rattle.promises.proofs.Wanted.{good_wanted}
@@ -83,21 +83,21 @@ module _ (t : List ℕ) (good : Good t) where
   good_settles (spawn k p) s e = both s refl
   good_settles (open_finish k) s e = both s refl
   good_settles (end k) s e = both s refl
-  good_settles (deliver k) s e = by_step t (deliver k) e (deliver-moves (good_held t good) k)
+  good_settles (deliver k) s e = by_step t (deliver k) e (deliver_moves (good_held t good) k)
   good_settles (kill p) s e = both s refl
-  good_settles (adopt f) s e = by_step t (adopt f) e (adopt-moves (good_held t good) f)
-  good_settles (cancel f v) s e = by_step t (cancel f v) e (cancel-moves (good_held t good) f v)
-  good_settles (ask f v j) s e = by_step t (ask f v j) e (ask-moves (good_held t good) f v j)
+  good_settles (adopt f) s e = by_step t (adopt f) e (adopt_moves (good_held t good) f)
+  good_settles (cancel f v) s e = by_step t (cancel f v) e (cancel_moves (good_held t good) f v)
+  good_settles (ask f v j) s e = by_step t (ask f v j) e (ask_moves (good_held t good) f v j)
   good_settles (begin n) s e = both s refl
 
   pub good_spawns : (k p : ℕ) → answer t (record_of (spawn k p)) ≡ 0 → Moved (Spawn (view t) k p) (after t (record_of (spawn k p)))
   unfolding step
-  good_spawns k p e = by_step t (spawn k p) e (spawn-moves (good_held t good) k p)
+  good_spawns k p e = by_step t (spawn k p) e (spawn_moves (good_held t good) k p)
 
   pub good_ends : (k : ℕ) → answer t (record_of (end k)) ≡ 0 → Moved (Step.End (view t) k) (after t (record_of (end k)))
   unfolding step
-  good_ends k e = by_step t (end k) e (end-moves (good_held t good) k)
+  good_ends k e = by_step t (end k) e (end_moves (good_held t good) k)
 
   pub good_kills : (p : ℕ) → answer t (record_of (kill p)) ≡ 0 → Moved (Step.Kill (view t) p) (after t (record_of (kill p)))
   unfolding step
-  good_kills p e = by_step t (kill p) e (λ own. kill-moves (good_held t good) p own good.inv.status-made good.inv.blank_finishes good.inv.cell-places)
+  good_kills p e = by_step t (kill p) e (λ own. kill_moves (good_held t good) p own good.inv.status_made good.inv.blank_finishes good.inv.cell-places)

@@ -13,8 +13,8 @@ use Rattle.tables.specs.Layout.{Whole, place, book_row}
 use Rattle.tables.proofs.Bits.{with_mark_lem, without_mark_lem}
 use Rattle.rules.specs.Fields.{present, book_parent, adopt_due, is_adopted, ghost_byte, live_place, sent_place, asked_place, live, sent_count, asked_marks}
 use Rattle.rules.specs.Deliver.{book_absent, without_ghost}
-use Rattle.model.specs.Base.Cases.{eq-cases, bool_cases, and_left, and_right, both}
-use Rattle.model.specs.Base.Updates.{upd, upd_same, upd_other, is₂, is₃, is₂-cases, is₂-same, is₃-same, is₃-false}
+use Rattle.model.specs.Base.Cases.{eq_cases, bool_cases, and_left, and_right, both}
+use Rattle.model.specs.Base.Updates.{upd, upd_same, upd_other, is₂, is₃, is₂-cases, is₂_same, is₃_same, is₃_false}
 use Rattle.model.specs.State.{State, with_books, with_due, with_ghosts, with_live, with_sent, with_asked}
 use Rattle.promises.specs.View.{cell, view, view_of, rows, flat, ghost_in, book_table, live_table, sent_table, asked_table}
 use Rattle.promises.proofs.Cells.{upd_cell, upd_run, set_outside, write_outside, cell_in, cell_kept, cell_set, cell-write, cell_out}
@@ -34,9 +34,9 @@ module _ {t : List ℕ} {a : State} (s : Seen t a) (f : ℕ) (f0 : 0 < f) (f33 :
   unfolding book_absent
   book_there mark e = let n = eqb-false (present t f) 0 e in omega (arith, read_present)
 
-  pub read_book-parent : book_parent t f ≡ a.books.parent f
+  pub read_book_parent : book_parent t f ≡ a.books.parent f
   unfolding view
-  read_book-parent = read_cell s book_table f 1 (λ x. x.books.parent f) (omega arith) (f0, f33) refl
+  read_book_parent = read_cell s book_table f 1 (λ x. x.books.parent f) (omega arith) (f0, f33) refl
 
   pub read_due : adopt_due t f ≡ a.books.due f
   unfolding view
@@ -67,9 +67,9 @@ module _ {t : List ℕ} {a : State} (s : Seen t a) (f : ℕ) (f0 : 0 < f) (f33 :
   read_asked i j h = rw (asked-byte i h) (ap (λ (x : State). x.books.asked f i j) s.is)
 
 -- only 32 finishes have a book
-pub book-range : {t : List ℕ} {a : State} → Seen t a → (f : ℕ) → (a.books.present f ≡ 0 → ⊥) → (0 < f) × (f < 33)
+pub book_range : {t : List ℕ} {a : State} → Seen t a → (f : ℕ) → (a.books.present f ≡ 0 → ⊥) → (0 < f) × (f < 33)
 unfolding view
-book-range {t} s f n = bool_cases (leb 1 f && ltb f 33)
+book_range {t} s f n = bool_cases (leb 1 f && ltb f 33)
     (λ e. (leb-true 1 f (and_left (leb 1 f) (ltb f 33) e), ltb-true f 33 (and_right (leb 1 f) (ltb f 33) e)))
     (λ e. absurd (n (ap (λ (x : State). x.books.present f) (sym s.is) ∙ cell_out book_table t f 0 e)))
 
@@ -87,18 +87,18 @@ ghost_none b z g = rw (z (4 + (g - 1) / 8), no_marks ((g - 1) % 8)) (and-false (
 
 cell_is : (c : ℕ → ℕ → ℕ) (f i v x y : ℕ) → upd_cell c f i v x y ≡ cond (is₂ f i x y) v (c x y)
 cell_is c f i v x y = is₂-cases f i x y
-    (λ p q. rw (sym p, sym q, is₂-same f i, eq-eqb i i refl, upd_same (λ y. c y i) f v) refl)
-    (λ e. rw e (eq-cases y i
-    (λ q. rw (eq-eqb y i q) (upd_other (λ z. c z y) f v x (λ p. both (rw (p, q) (is₂-same f i)) e)))
+    (λ p q. rw (sym p, sym q, is₂_same f i, eq-eqb i i refl, upd_same (λ y. c y i) f v) refl)
+    (λ e. rw e (eq_cases y i
+    (λ q. rw (eq-eqb y i q) (upd_other (λ z. c z y) f v x (λ p. both (rw (p, q) (is₂_same f i)) e)))
     (λ q. rw (ne_eqb y i q) refl)))
 
 -- mark c of the byte at a, b
 pub mark_is : (m : ℕ → ℕ → ℕ) (a b c x y z : ℕ) → c < 8 → marked (cond (is₂ a b x y) (with_mark (m a b) c) (m x y)) z ≡ (marked (m x y) z || is₃ a b c x y z)
 mark_is m a b c x y z h = is₂-cases a b x y
-    (λ p q. rw (sym p, sym q, is₂-same a b, with_mark_lem (m a b) c z h) (eq-cases z c
-    (λ r. rw (r, eq-eqb c c refl, is₃-same a b c) (sym (or_true (marked (m a b) c))))
-    (λ r. rw (ne_eqb z c r, is₃-false a b c a b z (λ i j k. r (sym k))) (sym (or_none (marked (m a b) z))))))
-    (λ e. rw (e, is₃-false a b c x y z (λ i j k. both (rw (sym i, sym j) (is₂-same a b)) e)) (sym (or_none (marked (m x y) z))))
+    (λ p q. rw (sym p, sym q, is₂_same a b, with_mark_lem (m a b) c z h) (eq_cases z c
+    (λ r. rw (r, eq-eqb c c refl, is₃_same a b c) (sym (or_true (marked (m a b) c))))
+    (λ r. rw (ne_eqb z c r, is₃_false a b c a b z (λ i j k. r (sym k))) (sym (or_none (marked (m a b) z))))))
+    (λ e. rw (e, is₃_false a b c x y z (λ i j k. both (rw (sym i, sym j) (is₂_same a b)) e)) (sym (or_none (marked (m x y) z))))
   where
     or_true : (b : Bool) → (b || true) ≡ true
     or_true true = refl
@@ -110,8 +110,8 @@ mark_is m a b c x y z h = is₂-cases a b x y
 
 -- ---- writes, by rows; u is t but for bytes a to e
 module _ (t : List ℕ) (whole : Whole t) (f : ℕ) (f0 : 0 < f) (f33 : f < 33) where
-  set-book : (j v : ℕ) → j < 8 → rows (set t (place (book_row f) j) v) ≡ with_book_rows (upd_cell (cell t book_table) f j v) (cell t live_table) (cell t sent_table) (cell t asked_table) (rows t)
-  set-book j v h =
+  set_book : (j v : ℕ) → j < 8 → rows (set t (place (book_row f) j) v) ≡ with_book_rows (upd_cell (cell t book_table) f j v) (cell t live_table) (cell t sent_table) (cell t asked_table) (rows t)
+  set_book j v h =
       let p = place (book_row f) j in
       let own = set_outside t p v p (p + 1) (omega arith) (omega arith) in
       books_become (set_outside t p v 2304 6912 (omega arith) (omega arith)) (cell_set book_table book_sits t f j v p refl h f0 f33 (omega arith))
@@ -135,8 +135,8 @@ module _ (t : List ℕ) (whole : Whole t) (f : ℕ) (f0 : 0 < f) (f33 : f < 33) 
         (cell_set live_table live_sits t (8 * (f - 1) + i) j v p (omega arith) h (omega arith) (omega arith) (omega arith))
         (cell_kept sent_table t (set t p v) p (p + 1) own (λ x y a b c d e. omega arith)) (cell_kept asked_table t (set t p v) p (p + 1) own (λ x y a b c d e. omega arith))
 
-    set-sent : (j v : ℕ) → j < 8 → rows (set t (sent_place f i j) v) ≡ with_book_rows (cell t book_table) (cell t live_table) (upd_cell (cell t sent_table) (8 * (f - 1) + i) j v) (cell t asked_table) (rows t)
-    set-sent j v h =
+    set_sent : (j v : ℕ) → j < 8 → rows (set t (sent_place f i j) v) ≡ with_book_rows (cell t book_table) (cell t live_table) (upd_cell (cell t sent_table) (8 * (f - 1) + i) j v) (cell t asked_table) (rows t)
+    set_sent j v h =
         let p = sent_place f i j in
         let own = set_outside t p v p (p + 1) (omega arith) (omega arith) in
         books_become (set_outside t p v 2304 6912 (omega arith) (omega arith)) (cell_kept book_table t (set t p v) p (p + 1) own (λ x y a b c d e. omega arith))
@@ -156,7 +156,7 @@ module _ {t : List ℕ} {a : State} (s : Seen t a) (f : ℕ) (f0 : 0 < f) (f33 :
   pub seen_due : (v : ℕ) → Seen (set t (place (book_row f) 2) v) (with_due (upd a.books.due f v) a)
   unfolding view
   seen_due v = by_set (λ x. with_due (upd x.books.due f v) x) s (place (book_row f) 2) v
-      (ap view_of (set-book t s.whole f f0 f33 2 v (omega arith))
+      (ap view_of (set_book t s.whole f f0 f33 2 v (omega arith))
       ∙ (λ z. with_ghosts (λ x. ghost_same (upd_cell (cell t book_table) f 2 v x) (cell t book_table x) (λ j p q. rw (ne_eqb j 2 (λ e. omega arith)) refl) z) (with_due (upd (λ x. cell t book_table x 2) f v) (view_of (rows t)))))
 
   -- four bytes of ghosts
@@ -173,10 +173,10 @@ module _ {t : List ℕ} {a : State} (s : Seen t a) (f : ℕ) (f0 : 0 < f) (f33 :
       ghosts x = fun_ext (λ g. bool_cases (leb 1 g && ltb g 33)
           (λ e. let b = ltb-true g 33 (and_right (leb 1 g) (ltb g 33) e) in
           let d : 4 + (g - 1) / 8 - 4 ≡ (g - 1) / 8 = omega arith in
-          rw (e, le-leb 4 (4 + (g - 1) / 8) (omega arith), lt-ltb (4 + (g - 1) / 8) (4 + 4) (omega arith)) (eq-cases x f
+          rw (e, le-leb 4 (4 + (g - 1) / 8) (omega arith), lt-ltb (4 + (g - 1) / 8) (4 + 4) (omega arith)) (eq_cases x f
           (λ q. rw (q, upd_same (λ y. ghost_in (cell t book_table y)) f new, upd_same (λ y. cell t book_table y (4 + (g - 1) / 8)) f (byte vs (4 + (g - 1) / 8 - 4)), d, e) refl)
           (λ q. rw (upd_other (λ y. ghost_in (cell t book_table y)) f new x q, upd_other (λ y. cell t book_table y (4 + (g - 1) / 8)) f (byte vs (4 + (g - 1) / 8 - 4)) x q, e) refl)))
-          (λ e. rw e (eq-cases x f
+          (λ e. rw e (eq_cases x f
           (λ q. rw (q, upd_same (λ y. ghost_in (cell t book_table y)) f new, e) refl)
           (λ q. rw (upd_other (λ y. ghost_in (cell t book_table y)) f new x q, e) refl))))
 
@@ -189,7 +189,7 @@ module _ {t : List ℕ} {a : State} (s : Seen t a) (f : ℕ) (f0 : 0 < f) (f33 :
     pub seen_sent : (j v : ℕ) → j < 8 → Seen (set t (sent_place f i j) v) (with_sent (λ x y z. cond (is₃ f i j x y z) v (a.books.sent x y z)) a)
     unfolding view
     seen_sent j v j8 = by_set (λ b. with_sent (λ x y z. cond (is₃ f i j x y z) v (b.books.sent x y z)) b) s (sent_place f i j) v
-        (ap view_of (set-sent t s.whole f f0 f33 i i8 j v j8) ∙ (λ z. with_sent (flat-set (cell t sent_table) f i f0 i8 j v z) (view_of (rows t))))
+        (ap view_of (set_sent t s.whole f f0 f33 i i8 j v j8) ∙ (λ z. with_sent (flat-set (cell t sent_table) f i f0 i8 j v z) (view_of (rows t))))
 
     pub seen_asked : (j : ℕ) → j < 8 → Seen (set t (asked_place f i) (with_mark (asked_marks t f i) j)) (with_asked (λ x y z. a.books.asked x y z || is₃ f i j x y z) a)
     unfolding view
@@ -203,7 +203,7 @@ module _ {t : List ℕ} {a : State} (s : Seen t a) (f : ℕ) (f0 : 0 < f) (f33 :
   pub seen_ghost_ended : (g : ℕ) → 0 < g → g < 33 → Seen (without_ghost t f g) (with_ghosts (λ x y. cond (is₂ f g x y) false (a.books.ghosts x y)) a)
   unfolding view ghost_in without_ghost
   seen_ghost_ended g g0 g33 = by_set (λ b. with_ghosts (λ x y. cond (is₂ f g x y) false (b.books.ghosts x y)) b) s (place (book_row f) k) v
-      (ap view_of (set-book t s.whole f f0 f33 k v (omega arith))
+      (ap view_of (set_book t s.whole f f0 f33 k v (omega arith))
       ∙ (λ z. with_books (record {
         present = λ x. other x 0 (omega arith) z;
         parent = λ x. other x 1 (omega arith) z;
@@ -232,17 +232,17 @@ module _ {t : List ℕ} {a : State} (s : Seen t a) (f : ℕ) (f0 : 0 < f) (f33 :
 
       ghosts : (x y : ℕ) → ((leb 1 y && ltb y 33) && marked (upd_cell c f k v x (4 + (y - 1) / 8)) ((y - 1) % 8)) ≡ cond (is₂ f g x y) false ((leb 1 y && ltb y 33) && marked (c x (4 + (y - 1) / 8)) ((y - 1) % 8))
       ghosts x y = is₂-cases f g x y
-          (λ p q. rw (sym p, sym q, is₂-same f g, eq-eqb k k refl, upd_same (λ z. c z k) f v, without_mark_lem (ghost_byte t f ((g - 1) / 8)) ((g - 1) % 8) ((g - 1) % 8), eq-eqb ((g - 1) % 8) ((g - 1) % 8) refl) (and-false (leb 1 g && ltb g 33)))
+          (λ p q. rw (sym p, sym q, is₂_same f g, eq-eqb k k refl, upd_same (λ z. c z k) f v, without_mark_lem (ghost_byte t f ((g - 1) / 8)) ((g - 1) % 8) ((g - 1) % 8), eq-eqb ((g - 1) % 8) ((g - 1) % 8) refl) (and-false (leb 1 g && ltb g 33)))
           (λ n. rw n (bool_cases (leb 1 y && ltb y 33)
           (λ e. let y0 = leb-true 1 y (and_left (leb 1 y) (ltb y 33) e) in
-          rw e (eq-cases (4 + (y - 1) / 8) k
-          (λ d. rw (d, eq-eqb k k refl) (eq-cases x f
+          rw e (eq_cases (4 + (y - 1) / 8) k
+          (λ d. rw (d, eq-eqb k k refl) (eq_cases x f
           (λ p. rw (
             p,
             upd_same (λ z. c z k) f v,
             without_mark_lem (ghost_byte t f ((g - 1) / 8)) ((g - 1) % 8) ((y - 1) % 8),
             old,
-            ne_eqb ((y - 1) % 8) ((g - 1) % 8) (λ r. let q : y ≡ g = omega arith in both (rw (p, q) (is₂-same f g)) n),
+            ne_eqb ((y - 1) % 8) ((g - 1) % 8) (λ r. let q : y ≡ g = omega arith in both (rw (p, q) (is₂_same f g)) n),
           ) refl)
           (λ p. rw (upd_other (λ z. c z k) f v x p) refl)))
           (λ d. rw (ne_eqb (4 + (y - 1) / 8) k d) refl)))

@@ -13,7 +13,7 @@ use Rattle.tables.specs.Layout.{Whole}
 use Rattle.tables.proofs.Changes.{length_change}
 use Rattle.rules.specs.Fields.{book_place}
 use Rattle.rules.specs.Books.{book_of}
-use Rattle.model.specs.Base.Cases.{bool_cases, eq-cases, and_left, and_right}
+use Rattle.model.specs.Base.Cases.{bool_cases, eq_cases, and_left, and_right}
 use Rattle.promises.specs.View.{cell, rows, book_table, live_table, sent_table, asked_table}
 use Rattle.promises.proofs.Cells.{change_outside}
 use Rattle.promises.proofs.Walks.{walk_set}
@@ -41,7 +41,7 @@ module _ (t : List ℕ) (whole : Whole t) (c : ℕ) (c8 : c < 8) (h : List ℕ �
   first_rows : cell walked book_table ≡ (λ f j. cond (eqb j c && (leb 1 f && ltb f 33)) (h (book_of t f) f) (cell t book_table f j))
   unfolding book_of
   first_rows = walk_set book_table 144 1 32 2304 t (omega arith) (λ f. f - 1) (λ f. 0) (λ f j p q r. omega arith) c h (omega arith)
-      ∙ fun_ext (λ f. fun_ext (λ j. rw (zero-add j) (eq-cases j c
+      ∙ fun_ext (λ f. fun_ext (λ j. rw (zero-add j) (eq_cases j c
       (λ e. bool_cases (leb 1 f && ltb f 33)
       (λ y. let a = leb-true 1 f (and_left (leb 1 f) (ltb f 33) y) in let b = ltb-true f 33 (and_right (leb 1 f) (ltb f 33) y) in
       let q : 2304 + 144 * (f - 1) ≡ book_place f = omega arith in let x : 1 + (f - 1) ≡ f = omega arith in

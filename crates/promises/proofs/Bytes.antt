@@ -18,10 +18,10 @@ use Rattle.tables.proofs.Writes.{byte-part, length_part, length-write, byte-writ
 use Rattle.tables.proofs.Changes.{Keeps, byte_change_in, byte_change_out}
 use Rattle.rules.specs.Fields.{book_place, ghost_byte}
 use Rattle.rules.specs.Books.{book_of, clear_row, cleared_column, lower_row, lowered_column}
-use Rattle.rules.specs.Books.{with_book as writeBook}
+use Rattle.rules.specs.Books.{with_book as write_book}
 use Rattle.rules.specs.Deliver.{without_ghost}
 use Rattle.rules.specs.Messages.{none, bytes_of, message, no_counts, send, slot_place}
-use Rattle.model.specs.Base.Cases.{bool_cases, eq-cases}
+use Rattle.model.specs.Base.Cases.{bool_cases, eq_cases}
 use Rattle.promises.proofs.Walks.{zeros_at}
 
 pub record Bytes (t : List ℕ) : Type 0 where
@@ -35,7 +35,7 @@ within-length t h = record { small = λ p. bool_cases (ltb p (length t)) (λ e. 
     past p l = let e : byte t p ≡ 0 = get_or-eq_default t 0 l in omega arith
 
 pub bytes_set : {t : List ℕ} → Bytes t → (p v : ℕ) → v < 256 → Bytes (set t p v)
-bytes_set {t} h p v l = within-length (set t p v) (λ q m. eq-cases q p
+bytes_set {t} h p v l = within-length (set t p v) (λ q m. eq_cases q p
     (λ e. rw (e, get_or-set_same t p v 0 (omega (arith, length-set t p v))) l)
     (λ e. rw (get_or-set_other t p q v 0 e) (h.small q)))
 
@@ -96,12 +96,12 @@ module _ {t : List ℕ} (h : Bytes t) where
     unfolding book_of
     book = bytes_part h (book_place f) 144
 
-    pub bytes_cleared : Bytes (writeBook t f (cleared_column (book_of t f) v))
-    unfolding writeBook cleared_column clear_row
+    pub bytes_cleared : Bytes (write_book t f (cleared_column (book_of t f) v))
+    unfolding write_book cleared_column clear_row
     bytes_cleared = bytes_write h (book_place f) (bytes_change (clear_row v) 8 8 (λ m i l. length-set m v 0 ∙ l) (λ q l. omega arith) (λ m i g. bytes_set g v 0 (omega arith)) 0 8 size book)
 
-    pub bytes_lowered : (counts : List ℕ) → Bytes (writeBook t f (lowered_column (book_of t f) v counts))
-    unfolding writeBook lowered_column lower_row
+    pub bytes_lowered : (counts : List ℕ) → Bytes (write_book t f (lowered_column (book_of t f) v counts))
+    unfolding write_book lowered_column lower_row
     bytes_lowered counts = bytes_write h (book_place f)
         (bytes_change (lower_row v counts) 8 8 (λ m i l. length-set m v (byte m v - byte counts i) ∙ l) (λ q l. omega arith) (λ m i g. bytes_set g v (byte m v - byte counts i) (omega (arith, g.small v))) 0 8 size book)
 

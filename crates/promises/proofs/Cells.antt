@@ -13,7 +13,7 @@ use Rattle.tables.specs.Bytes.{byte, part, write}
 use Rattle.tables.specs.Walks.{change_parts}
 use Rattle.tables.proofs.Writes.{byte-part, length_part, byte-write_in, byte-write_out}
 use Rattle.tables.proofs.Changes.{Keeps, byte_change_out}
-use Rattle.model.specs.Base.Cases.{eq-cases, bool_cases, and_left, and_right, both}
+use Rattle.model.specs.Base.Cases.{eq_cases, bool_cases, and_left, and_right, both}
 use Rattle.model.specs.Base.Updates.{upd, upd_same, upd_other}
 use Rattle.promises.specs.View.{Table, within, cell}
 
@@ -29,11 +29,11 @@ upd_run f k o n r x i = cond (leb o i && ltb i (o + n)) (upd (λ y. f y i) k (r 
 pub run_row : (f : ℕ → ℕ → ℕ) (k n : ℕ) (r : ℕ → ℕ) → ((y j : ℕ) → n ≤ j → f y j ≡ 0) → ((j : ℕ) → n ≤ j → r j ≡ 0) → upd_run f k 0 n r ≡ upd f k r
 run_row f k n r fz rz = fun_ext (λ x. fun_ext (λ j. bool_cases (ltb j n)
     (λ l. let e : ltb j (0 + n) ≡ true = lt-ltb j (0 + n) (omega (arith, ltb-true j n l)) in let d : j - 0 ≡ j = omega arith in
-    rw (le-leb 0 j (omega arith), e, d) (eq-cases x k
+    rw (le-leb 0 j (omega arith), e, d) (eq_cases x k
     (λ q. rw (q, upd_same (λ y. f y j) k (r j), upd_same f k r) refl)
     (λ q. rw (upd_other (λ y. f y j) k (r j) x q, upd_other f k r x q) refl)))
     (λ l. let h = ltb-false j n l in let e : ltb j (0 + n) ≡ false = le-ltb j (0 + n) (omega arith) in
-    rw (le-leb 0 j (omega arith), e, fz x j h) (eq-cases x k
+    rw (le-leb 0 j (omega arith), e, fz x j h) (eq_cases x k
     (λ q. rw (q, upd_same f k r) (sym (rz j h)))
     (λ q. rw (upd_other f k r x q) (sym (fz x j h)))))))
 
@@ -79,8 +79,8 @@ module _ (T : Table) where
   unfolding cell
   cell_out t x j e = rw e
 
-  pub cell-wide : (t : List ℕ) (x j : ℕ) → T.wide ≤ j → cell t T x j ≡ 0
-  cell-wide t x j h = cell_out t x j (bool_cases (ltb j T.wide) (λ e. absurd (omega (arith, ltb-true j T.wide e))) (λ e. rw e refl))
+  pub cell_wide : (t : List ℕ) (x j : ℕ) → T.wide ≤ j → cell t T x j ≡ 0
+  cell_wide t x j h = cell_out t x j (bool_cases (ltb j T.wide) (λ e. absurd (omega (arith, ltb-true j T.wide e))) (λ e. rw e refl))
 
   -- the cells of t are g
   pub cell_ext : (t : List ℕ) (g : ℕ → ℕ → ℕ)
@@ -107,15 +107,15 @@ module _ (T : Table) where
   cell_set sits t k j v p place hj hl hh fits = cell_ext (set t p v) (upd_cell (cell t T) k j v) inside outside
     where
       inside : (x i : ℕ) → i < T.wide → T.first ≤ x → x < T.end → byte (set t p v) (T.at x i) ≡ upd_cell (cell t T) k j v x i
-      inside x i a b c = eq-cases i j
-          (λ e. rw (eq-eqb i j e) (eq-cases x k
+      inside x i a b c = eq_cases i j
+          (λ e. rw (eq-eqb i j e) (eq_cases x k
           (λ d. rw (e, d, upd_same (λ y. cell t T y j) k v, place) (get_or-set_same t p v 0 fits))
           (λ d. rw (upd_other (λ y. cell t T y i) k v x d, cell_in t x i a b c) (get_or-set_other t p (T.at x i) v 0 (λ z. d (sits.apart x i k j a hj b hl (z ∙ sym place)).0)))))
           (λ ne. rw (ne_eqb i j ne, cell_in t x i a b c) (get_or-set_other t p (T.at x i) v 0 (λ z. ne (sits.apart x i k j a hj b hl (z ∙ sym place)).1)))
 
       outside : (x i : ℕ) → within T x i ≡ false → upd_cell (cell t T) k j v x i ≡ 0
-      outside x i n = eq-cases i j
-          (λ e. rw (eq-eqb i j e) (eq-cases x k
+      outside x i n = eq_cases i j
+          (λ e. rw (eq-eqb i j e) (eq_cases x k
           (λ d. let z : within T x i ≡ true = rw (e, d) (within_true k j hj hl hh) in both z n)
           (λ d. rw (upd_other (λ y. cell t T y i) k v x d) (cell_out t x i n))))
           (λ ne. rw (ne_eqb i j ne) (cell_out t x i n))
@@ -142,7 +142,7 @@ module _ (T : Table) where
 
       inside : (x i : ℕ) → i < T.wide → T.first ≤ x → x < T.end → byte (write t p vs) (T.at x i) ≡ upd_run (cell t T) k o n (byte vs) x i
       inside x i a b c = bool_cases (leb o i && ltb i (o + n))
-          (λ e. let s = span i e in eq-cases x k
+          (λ e. let s = span i e in eq_cases x k
           (λ d. let z : T.at k i ≡ p + (i - o) = omega (arith, sits.along k i, sits.along k o, s.0) in
           rw (e, d, upd_same (λ y. cell t T y i) k (byte vs (i - o)), z) (byte-write_in t p vs (i - o) (omega (arith, s.0, s.1)) (omega (arith, s.0, s.1))))
           (λ d. rw (e, upd_other (λ y. cell t T y i) k (byte vs (i - o)) x d) (other x i a b c (λ z y r. d z))))
@@ -150,7 +150,7 @@ module _ (T : Table) where
 
       outside : (x i : ℕ) → within T x i ≡ false → upd_run (cell t T) k o n (byte vs) x i ≡ 0
       outside x i ne = bool_cases (leb o i && ltb i (o + n))
-          (λ e. let s = span i e in eq-cases x k
+          (λ e. let s = span i e in eq_cases x k
           (λ d. let z : within T x i ≡ true = within_true x i (omega (arith, s.1)) (omega arith) (omega arith) in both z ne)
           (λ d. rw (e, upd_other (λ y. cell t T y i) k (byte vs (i - o)) x d) (cell_out t x i ne)))
           (λ e. rw e (cell_out t x i ne))
@@ -185,4 +185,4 @@ module _ (T : Table) where
       (λ e. let h = ltb-true i T.wide e in
       byte-part t (T.at x 0) T.wide i h ∙ ap (byte t) (sym (sits.along x i)) ∙ sym (cell_in t x i h a b))
       (λ e. let h = ltb-false i T.wide e in
-      get_or-eq_default (part t (T.at x 0) T.wide) 0 (omega (arith, length_part t (T.at x 0) T.wide fits)) ∙ sym (cell-wide t x i h))
+      get_or-eq_default (part t (T.at x 0) T.wide) 0 (omega (arith, length_part t (T.at x 0) T.wide fits)) ∙ sym (cell_wide t x i h))

@@ -11,7 +11,7 @@ use Rattle.tables.specs.Walks.{every}
 use Rattle.tables.specs.Layout.{Whole, place, task_row, finish_row}
 use Rattle.tables.proofs.Walks.{every_each}
 use Rattle.rules.specs.Fields.{dead, task_from, task_at, task_maker, home, opener, parent, book_place, live, sent_count, live_place, sent_place, received, received_place, local_live, local_live_place, deny_mask, deny_place}
-use Rattle.rules.specs.Books.{with_book as writeBook}
+use Rattle.rules.specs.Books.{with_book as write_book}
 use Rattle.rules.specs.Messages.{Message, none, publish, published, transit, granted, denied, task, report, release, ghost_ended, count_dropped, dropped, send}
 use Rattle.rules.specs.Deliver.{climb_stops, nearest, new_book, fits, deliver_publish, deliver_published, counted, deliver_transit, deliver_granted, deliver_denied, arrived, deliver_task, deliver_report, deliver_release, deliver_ghost_ended, deliver_count_dropped, deliver_dropped, delivered}
 use Rattle.model.specs.Base.Cases.{bool_cases}
@@ -35,7 +35,7 @@ module _ {t : List ℕ} (w : Whole t) (h : Bytes t) where
   new_small b q l = bytes_set (bytes_set (bytes_write (bytes_zeros 144) 0 (bytes_more (omega arith) (bytes_more l bytes_none))) (8 + 8 * b + b) 1 (omega arith)) (72 + 8 * b + b) 1 (omega arith)
 
   pub delivered_bytes : (s : ℕ) (x : Message) → Small x → ((f v : ℕ) (c : List ℕ) → x ≡ report f v c → (0 < f) × (f < 33)) → fits t x ≡ true → Bytes (delivered t s x)
-  unfolding delivered deliver_publish deliver_published counted deliver_transit deliver_granted deliver_denied arrived deliver_task deliver_report deliver_release deliver_ghost_ended deliver_count_dropped deliver_dropped fits writeBook
+  unfolding delivered deliver_publish deliver_published counted deliver_transit deliver_granted deliver_denied arrived deliver_task deliver_report deliver_release deliver_ghost_ended deliver_count_dropped deliver_dropped fits write_book
   delivered_bytes s none l r e = h
   delivered_bytes s (publish f k) l r e = bytes_send (bytes_write h (book_place f) (new_small (home t f) (nearest t 32 (parent t f)) (nearest_small 32 (parent t f) (h.small (place (finish_row f) 2))))) s (published f k) l
   delivered_bytes s (published f k) l r e =

@@ -5,8 +5,8 @@ use Prim.Native.Nat.{ℕ, ◌+◌, ◌-◌, ◌*◌, ◌/◌, ◌%◌, ◌≤◌
 use native.Mathlib.Omega.{arith}
 use lib.Dec.{eqb, ltb, leb}
 use borrow.Author.Tests.{eq-eqb, ne_eqb, ltb-true, ltb-false, leb-true, lt-ltb, le-leb}
-use Rattle.model.specs.Base.Cases.{eq-cases, bool_cases, and_left, and_right, both}
-use Rattle.model.specs.Base.Updates.{upd, upd_same, upd_other, is₂, is₃, is₂-same, is₃-same, is₂-cases, is₃-cases}
+use Rattle.model.specs.Base.Cases.{eq_cases, bool_cases, and_left, and_right, both}
+use Rattle.model.specs.Base.Updates.{upd, upd_same, upd_other, is₂, is₃, is₂_same, is₃_same, is₂-cases, is₃-cases}
 use Rattle.promises.specs.View.{flat}
 use Rattle.promises.proofs.Cells.{upd_cell}
 
@@ -42,22 +42,22 @@ module _ (c : ℕ → ℕ → ℕ) (k a : ℕ) (pos : 0 < k) (small : a < 8) whe
   pub flat-set : (b v : ℕ) → flat (upd_cell c (8 * (k - 1) + a) b v) ≡ (λ f i j. cond (is₃ k a b f i j) v (flat c f i j))
   flat-set b v = flat_ext (upd_cell c (8 * (k - 1) + a) b v) (λ f i j. cond (is₃ k a b f i j) v (flat c f i j))
       (λ f i j p s. is₃-cases k a b f i j
-      (λ x y z. rw (sym x, sym y, sym z, is₃-same k a b, eq-eqb b b refl, upd_same (λ y. c y b) (8 * (k - 1) + a) v) refl)
-      (λ e. rw (e, flat_in c f i j p s) (eq-cases j b
+      (λ x y z. rw (sym x, sym y, sym z, is₃_same k a b, eq-eqb b b refl, upd_same (λ y. c y b) (8 * (k - 1) + a) v) refl)
+      (λ e. rw (e, flat_in c f i j p s) (eq_cases j b
       (λ z. rw (eq-eqb j b z) (upd_other (λ y. c y j) (8 * (k - 1) + a) v (8 * (f - 1) + i)
-      (λ q. let x : f ≡ k = omega arith in let y : i ≡ a = omega arith in both (rw (x, y, z) (is₃-same k a b)) e)))
+      (λ q. let x : f ≡ k = omega arith in let y : i ≡ a = omega arith in both (rw (x, y, z) (is₃_same k a b)) e)))
       (λ z. rw (ne_eqb j b z) refl))))
       (λ f i j n. is₃-cases k a b f i j (λ x y z. both there (rw (x, y) n)) (λ e. rw e (flat_out c f i j n)))
 
   pub flat_row : (r : ℕ → ℕ) → flat (upd c (8 * (k - 1) + a) r) ≡ (λ f i j. cond (is₂ k a f i) (r j) (flat c f i j))
   flat_row r = flat_ext (upd c (8 * (k - 1) + a) r) (λ f i j. cond (is₂ k a f i) (r j) (flat c f i j))
       (λ f i j p s. is₂-cases k a f i
-      (λ x y. rw (sym x, sym y, is₂-same k a, upd_same c (8 * (k - 1) + a) r) refl)
+      (λ x y. rw (sym x, sym y, is₂_same k a, upd_same c (8 * (k - 1) + a) r) refl)
       (λ e. rw (
         e,
         flat_in c f i j p s,
         upd_other c (8 * (k - 1) + a) r (8 * (f - 1) + i)
-            (λ q. let x : f ≡ k = omega arith in let y : i ≡ a = omega arith in both (rw (x, y) (is₂-same k a)) e),
+            (λ q. let x : f ≡ k = omega arith in let y : i ≡ a = omega arith in both (rw (x, y) (is₂_same k a)) e),
       ) refl))
       (λ f i j n. is₂-cases k a f i (λ x y. both there (rw (x, y) n)) (λ e. rw e (flat_out c f i j n)))
 
@@ -66,10 +66,10 @@ pub flat_square : (c : ℕ → ℕ → ℕ) (k : ℕ) (r : ℕ → ℕ → ℕ) 
     → flat (λ y j. cond (eqb (y / 8) (k - 1)) (r (y % 8) j) (c y j)) ≡ upd (flat c) k r
 flat_square c k r pos z = flat_ext (λ y j. cond (eqb (y / 8) (k - 1)) (r (y % 8) j) (c y j)) (upd (flat c) k r)
     (λ f i j p s. let d : (8 * (f - 1) + i) / 8 ≡ f - 1 = omega arith in let o : (8 * (f - 1) + i) % 8 ≡ i = omega arith in
-    rw (d, o) (eq-cases f k
+    rw (d, o) (eq_cases f k
     (λ e. rw (e, eq-eqb (k - 1) (k - 1) refl, upd_same (flat c) k r) refl)
     (λ e. rw (ne_eqb (f - 1) (k - 1) (λ q. e (omega arith)), upd_other (flat c) k r f e) (sym (flat_in c f i j p s)))))
-    (λ f i j n. eq-cases f k
+    (λ f i j n. eq_cases f k
     (λ e. rw (e, upd_same (flat c) k r) (z i j (bool_cases (ltb i 8) (λ l. both (rw (l, le-leb 1 k pos) refl) (rw e at n)) (λ l. ltb-false i 8 l))))
     (λ e. rw (upd_other (flat c) k r f e) (flat_out c f i j n)))
 

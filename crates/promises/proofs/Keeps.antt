@@ -15,26 +15,26 @@ use Rattle.rules.specs.Adopt.{orphan, adopt_book}
 use Rattle.model.specs.Base.Cases.{bool_cases}
 
 module _ (p : ℕ) where
-  pub task-keeps : Keeps (kill_task p) 8
+  pub task_keeps : Keeps (kill_task p) 8
   unfolding kill_task
-  task-keeps m k l = length-set m 3 (cond (loses_task p (byte m 0) (byte m 1) (byte m 3)) 8 (byte m 3)) ∙ l
+  task_keeps m k l = length-set m 3 (cond (loses_task p (byte m 0) (byte m 1) (byte m 3)) 8 (byte m 3)) ∙ l
 
-  pub finish-keeps : Keeps (kill_finish p) 8
+  pub finish_keeps : Keeps (kill_finish p) 8
   unfolding kill_finish
-  finish-keeps m f l = length-set m 3 (cond (loses_finish p (byte m 0) (byte m 3)) 5 (byte m 3)) ∙ l
+  finish_keeps m f l = length-set m 3 (cond (loses_finish p (byte m 0) (byte m 3)) 5 (byte m 3)) ∙ l
 
-  pub book-keeps : Keeps (kill_book p) 144
+  pub book_keeps : Keeps (kill_book p) 144
   unfolding kill_book
-  book-keeps m f l = length-set m 2 (cond (every (eqb (byte m 0) 1 ∷ not (eqb (column m p) 0) ∷ [])) 1 (byte m 2)) ∙ l
+  book_keeps m f l = length-set m 2 (cond (every (eqb (byte m 0) 1 ∷ not (eqb (column m p) 0) ∷ [])) 1 (byte m 2)) ∙ l
 
   pub local_keeps : Keeps (kill_local p) 24
   unfolding kill_local
   local_keeps m y l = bool_cases (eqb (y % 8) p) (λ e. rw e refl) (λ e. rw e l)
 
-  pub slot-keeps : (t : List ℕ) → Keeps (kill_slot t p) 16
+  pub slot_keeps : (t : List ℕ) → Keeps (kill_slot t p) 16
   unfolding kill_slot
-  slot-keeps t m s l = bool_cases (eqb (goes_to t (message_in m)) p) (λ e. rw e refl) (λ e. rw e l)
+  slot_keeps t m s l = bool_cases (eqb (goes_to t (message_in m)) p) (λ e. rw e refl) (λ e. rw e l)
 
-pub adopt-keeps : (t : List ℕ) (f : ℕ) → Keeps (adopt_book t f) 144
+pub adopt_keeps : (t : List ℕ) (f : ℕ) → Keeps (adopt_book t f) 144
 unfolding adopt_book
-adopt-keeps t f m g l = length-set m 3 (cond (orphan t f m g) 1 (byte m 3)) ∙ l
+adopt_keeps t f m g l = length-set m 3 (cond (orphan t f m g) 1 (byte m 3)) ∙ l

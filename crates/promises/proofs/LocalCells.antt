@@ -12,10 +12,10 @@ use Rattle.tables.proofs.Writes.{length_part}
 use Rattle.rules.specs.Fields.{received_place, reported_place, local_live_place, deny_place, received, reported, local_live, deny_mask}
 use Rattle.rules.specs.End.{received_row, reported_row}
 use Rattle.model.specs.Base.Cases.{both}
-use Rattle.model.specs.Base.Updates.{upd, is₂, is₃, is₂-cases, is₂-same, is₃-same, is₃-false}
+use Rattle.model.specs.Base.Updates.{upd, is₂, is₃, is₂-cases, is₂_same, is₃_same, is₃_false}
 use Rattle.model.specs.State.{State, with_received, with_reported, with_local_live, with_denied}
 use Rattle.promises.specs.View.{cell, view, view_of, rows, flat, received_table, reported_table, rest_table}
-use Rattle.promises.proofs.Cells.{upd_cell, set_outside, write_outside, cell_in, cell-wide, cell_kept, cell_set, cell-write, run_row, row_is}
+use Rattle.promises.proofs.Cells.{upd_cell, set_outside, write_outside, cell_in, cell_wide, cell_kept, cell_set, cell-write, run_row, row_is}
 use Rattle.promises.proofs.Areas.{received_sits, reported_sits, rest_sits, with_local_rows, locals_become}
 use Rattle.promises.proofs.Flat.{flat_in, flat-set, flat_row}
 use Rattle.promises.proofs.Seen.{Seen, by_set, by_write, read_cell}
@@ -78,11 +78,11 @@ module _ {t : List ℕ} {a : State} (s : Seen t a) (f p : ℕ) (f0 : 0 < f) (f33
 -- ---- a key of three of which the last is c, and of which it is not
 is₃_last : (a b c x y : ℕ) → is₃ a b c x y c ≡ is₂ a b x y
 is₃_last a b c x y = is₂-cases a b x y
-    (λ p q. rw (sym p, sym q, is₃-same a b c, is₂-same a b) refl)
-    (λ e. rw e (is₃-false a b c x y c (λ p q r. both (rw (sym p, sym q) (is₂-same a b)) e)))
+    (λ p q. rw (sym p, sym q, is₃_same a b c, is₂_same a b) refl)
+    (λ e. rw e (is₃_false a b c x y c (λ p q r. both (rw (sym p, sym q) (is₂_same a b)) e)))
 
 is₃_off : (a b c x y z : ℕ) → (c ≡ z → ⊥) → is₃ a b c x y z ≡ false
-is₃_off a b c x y z n = is₃-false a b c x y z (λ p q r. n r)
+is₃_off a b c x y z n = is₃_false a b c x y z (λ p q r. n r)
 
 -- ---- writes, by rows
 module _ (t : List ℕ) (whole : Whole t) (f p : ℕ) (f0 : 0 < f) (f33 : f < 33) (p8 : p < 8) where
@@ -106,7 +106,7 @@ module _ (t : List ℕ) (whole : Whole t) (f p : ℕ) (f0 : 0 < f) (f33 : f < 33
       let own = write_outside t k vs 8 k (k + 8) n (omega arith) (omega arith) in
       locals_become (write_outside t k vs 8 6912 13056 n (omega arith) (omega arith)) (cell_kept received_table t (write t k vs) k (k + 8) own (λ x y a b c d e. omega arith))
       (cell-write reported_table reported_sits t (8 * (f - 1) + p) 0 8 k vs n (omega arith) (omega arith) (omega arith) (omega arith) (omega arith)
-      ∙ run_row (cell t reported_table) (8 * (f - 1) + p) 8 (byte vs) (λ y j g. cell-wide reported_table t y j g) (λ j g. get_or-eq_default vs 0 (omega arith)))
+      ∙ run_row (cell t reported_table) (8 * (f - 1) + p) 8 (byte vs) (λ y j g. cell_wide reported_table t y j g) (λ j g. get_or-eq_default vs 0 (omega arith)))
       (cell_kept rest_table t (write t k vs) k (k + 8) own (λ x y a b c d e. omega arith))
 
 -- ---- writes

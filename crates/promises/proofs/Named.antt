@@ -8,11 +8,11 @@ use Rattle.model.specs.Base.Cases.{bool_cases}
 use Rattle.model.specs.State.{State, Message}
 use Rattle.promises.specs.View.{view}
 use Rattle.promises.proofs.Slots.{read_slots}
-use Rattle.promises.proofs.Good.{Good, as_seen, places-below, tasks-below, finishes-below}
+use Rattle.promises.proofs.Good.{Good, as_seen, places-below, tasks_below, finishes_below}
 
 pub record Names (a : State) (m : Message) : Type 0 where
-  pub finish-low : 0 < m.finish
-  pub finish-high : m.finish < 33
+  pub finish_low : 0 < m.finish
+  pub finish_high : m.finish < 33
   pub task : m.tag ≤ 6 → (0 < m.task) × (m.task < 256) × (a.tasks.maker m.task < 256)
   pub places : 3 ≤ m.tag → (m.from < 8) × (m.to < 8)
 
@@ -26,18 +26,18 @@ module _ {t : List ℕ} (good : Good t) (k : ℕ) (k128 : k < 128) where
 
     task : m.tag ≤ 6 → (0 < m.task) × (m.task < 256) × ((view t).tasks.maker m.task < 256)
     task h =
-        let n = good.inv.names_task k in_flight some h in
-        omega (arith, n.0, n.1, (good.inv.task_ranges m.task n.0 n.1).5, tasks-below good)
+        let n = good.inv.names-task k in_flight some h in
+        omega (arith, n.0, n.1, (good.inv.task_ranges m.task n.0 n.1).5, tasks_below good)
 
     places : 3 ≤ m.tag → (m.from < 8) × (m.to < 8)
     places l = bool_cases (leb m.tag 6)
         (λ e.
         let h = leb-true m.tag 6 e in
-        let n = good.inv.names_task k in_flight some h in
-        omega (arith, good.inv.names_pair k in_flight l h, good.inv.task_ranges m.task n.0 n.1, places-below good))
-        (λ e. omega (arith, good.inv.names_places k in_flight (leb-false m.tag 6 e), places-below good))
+        let n = good.inv.names-task k in_flight some h in
+        omega (arith, good.inv.names-pair k in_flight l h, good.inv.task_ranges m.task n.0 n.1, places-below good))
+        (λ e. omega (arith, good.inv.names-places k in_flight (leb-false m.tag 6 e), places-below good))
 
     pub names : Names (view t) ((view t).slot k)
     names =
         let f = good.inv.names_finish k in_flight some in
-        record { finish-low = f.0; finish-high = omega (arith, f.1, finishes-below good); task = task; places = places }
+        record { finish_low = f.0; finish_high = omega (arith, f.1, finishes_below good); task = task; places = places }

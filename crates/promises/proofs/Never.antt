@@ -33,9 +33,9 @@ good_ranges t good (ask f v j) = ap not (good_held t good).sound
 good_ranges t good (begin n) = refl
 
 module _ (t r : List ℕ) (good : Good t) where
-  answer-most : answer t r ≤ 7
+  answer_most : answer t r ≤ 7
   unfolding answer refusals step_refusals first_of
-  answer-most =
+  answer_most =
       let x = action_of r in
       at_most (wrong_length t r) 7 _ (omega arith) (λ _.
       at_most (no_action x) 1 _ (omega arith) (λ _.
@@ -48,4 +48,4 @@ module _ (t r : List ℕ) (good : Good t) where
       passed (unwanted t x) 9 0 (good_wanted t good x a b) (omega arith)))))))))
 
   pub good_never : (answer t r ≡ 8 → ⊥) × (answer t r ≡ 9 → ⊥)
-  good_never = ((λ e. omega (arith, answer-most)), (λ e. omega (arith, answer-most)))
+  good_never = ((λ e. omega (arith, answer_most)), (λ e. omega (arith, answer_most)))

@@ -11,10 +11,10 @@ use lib.Seq.{get_or-set_same, get_or-set_other}
 use borrow.Author.Tests.{lt-ltb}
 use Rattle.tables.specs.Bytes.{byte, over, write}
 use Rattle.tables.proofs.Writes.{length-write, byte-write_out}
-use Rattle.rules.specs.Books.{with_book as writeBook}
+use Rattle.rules.specs.Books.{with_book as write_book}
 use Rattle.rules.specs.Deliver.{new_book}
 use Rattle.model.specs.Base.Cases.{bool_cases, both}
-use Rattle.model.specs.Base.Updates.{upd, on, on-true, on-false, is₂, is₂-cases, is₂-same}
+use Rattle.model.specs.Base.Updates.{upd, on, on_true, on_false, is₂, is₂-cases, is₂_same}
 use Rattle.model.specs.State.{State, with_books}
 use Rattle.model.specs.Effects.Deliver.{with_book}
 use Rattle.promises.specs.View.{ghost_in}
@@ -39,18 +39,18 @@ module _ (h q : ℕ) (h8 : h < 8) where
   abbrev one : List ℕ
   one = set first (8 + 8 * h + h) 1
 
-  new_length : length (new_book h q) ≡ 144
+  new-length : length (new_book h q) ≡ 144
   unfolding new_book first
-  new_length = length-set one (72 + 8 * h + h) 1 ∙ length-set first (8 + 8 * h + h) 1 ∙ first-length
+  new-length = length-set one (72 + 8 * h + h) 1 ∙ length-set first (8 + 8 * h + h) 1 ∙ first-length
 
   -- no byte but these two
   new_other : (k : ℕ) → (k ≡ 8 + 8 * h + h → ⊥) → (k ≡ 72 + 8 * h + h → ⊥) → byte (new_book h q) k ≡ byte first k
   unfolding new_book first
   new_other k a b = get_or-set_other one (72 + 8 * h + h) k 1 0 b ∙ get_or-set_other first (8 + 8 * h + h) k 1 0 a
 
-  new_live : byte (new_book h q) (8 + 8 * h + h) ≡ 1
+  new-live : byte (new_book h q) (8 + 8 * h + h) ≡ 1
   unfolding new_book first
-  new_live = get_or-set_other one (72 + 8 * h + h) (8 + 8 * h + h) 1 0 (λ e. omega arith) ∙ get_or-set_same first (8 + 8 * h + h) 1 0 (omega (arith, first-length))
+  new-live = get_or-set_other one (72 + 8 * h + h) (8 + 8 * h + h) 1 0 (λ e. omega arith) ∙ get_or-set_same first (8 + 8 * h + h) 1 0 (omega (arith, first-length))
 
   new_sent : byte (new_book h q) (72 + 8 * h + h) ≡ 1
   unfolding new_book first
@@ -60,47 +60,47 @@ module _ (h q : ℕ) (h8 : h < 8) where
   head_byte k l = new_other k (λ e. omega arith) (λ e. omega arith)
 
   at_home : (o : ℕ) → (o ≡ 8) ⊎ (o ≡ 72) → byte (new_book h q) (o + 8 * h + h) ≡ 1
-  at_home o (inl e) = rw e new_live
+  at_home o (inl e) = rw e new-live
   at_home o (inr e) = rw e new_sent
 
   elsewhere : (o i j : ℕ) → (o ≡ 8) ⊎ (o ≡ 72) → i < 8 → j < 8 → is₂ h h i j ≡ false → byte (new_book h q) (o + 8 * i + j) ≡ 0
   elsewhere o i j (inl e) a b n =
-      new_other (o + 8 * i + j) (λ z. let x : h ≡ i = omega arith in let y : h ≡ j = omega arith in both (rw (sym x, sym y) (is₂-same h h)) n) (λ z. omega arith)
+      new_other (o + 8 * i + j) (λ z. let x : h ≡ i = omega arith in let y : h ≡ j = omega arith in both (rw (sym x, sym y) (is₂_same h h)) n) (λ z. omega arith)
       ∙ first_zero (o + 8 * i + j) (omega arith)
   elsewhere o i j (inr e) a b n =
-      new_other (o + 8 * i + j) (λ z. omega arith) (λ z. let x : h ≡ i = omega arith in let y : h ≡ j = omega arith in both (rw (sym x, sym y) (is₂-same h h)) n)
+      new_other (o + 8 * i + j) (λ z. omega arith) (λ z. let x : h ≡ i = omega arith in let y : h ≡ j = omega arith in both (rw (sym x, sym y) (is₂_same h h)) n)
       ∙ first_zero (o + 8 * i + j) (omega arith)
 
   new_square : (o : ℕ) → (o ≡ 8) ⊎ (o ≡ 72) → square (new_book h q) o ≡ (λ i j. on (is₂ h h i j) 1)
   new_square o w = square_ext (new_book h q) o (λ i j. on (is₂ h h i j) 1)
       (λ i j a b. is₂-cases h h i j
-      (λ x y. rw (sym x, sym y, is₂-same h h, on-true true 1 refl) (at_home o w))
-      (λ n. rw (n, on-false false 1 refl) (elsewhere o i j w a b n)))
+      (λ x y. rw (sym x, sym y, is₂_same h h, on_true true 1 refl) (at_home o w))
+      (λ n. rw (n, on_false false 1 refl) (elsewhere o i j w a b n)))
       (λ i j n. is₂-cases h h i j
       (λ x y. let z : (ltb i 8 && ltb j 8) ≡ true = rw (sym x, sym y, lt-ltb h 8 h8) refl in both z n)
-      (λ m. rw (m, on-false false 1 refl) refl))
+      (λ m. rw (m, on_false false 1 refl) refl))
 
-  new_ghosts_lem : (g : ℕ) → ghost_in (byte (new_book h q)) g ≡ false
-  new_ghosts_lem g =
+  new-ghosts : (g : ℕ) → ghost_in (byte (new_book h q)) g ≡ false
+  new-ghosts g =
       ap (λ (r : ℕ → Bool). r g) (ghost_same (byte (new_book h q)) (λ j. 0) (λ j a b. head_byte j b ∙ first_zero j (omega arith)))
       ∙ ghost_none (λ j. 0) (λ j. refl) g
 
-  new_asked : (i j : ℕ) → asked_in (new_book h q) i j ≡ false
-  new_asked i j = bool_cases (ltb i 8)
+  new-asked : (i j : ℕ) → asked_in (new_book h q) i j ≡ false
+  new-asked i j = bool_cases (ltb i 8)
       (λ e. rw (e, new_other (136 + i) (λ z. omega arith) (λ z. omega arith), first_zero (136 + i) (omega arith)) (no_marks j))
       (λ e. rw e (no_marks j))
 
-  pub seen_new_book : {t : List ℕ} {a : State} → Seen t a → (f : ℕ) → 0 < f → f < 33 → Seen (writeBook t f (new_book h q)) (with_book f h q a)
+  pub seen_new_book : {t : List ℕ} {a : State} → Seen t a → (f : ℕ) → 0 < f → f < 33 → Seen (write_book t f (new_book h q)) (with_book f h q a)
   unfolding first write over
-  seen_new_book {t} {a} s f f0 f33 = same (seen_book s f f0 f33 (new_book h q) new_length) (λ z.
+  seen_new_book {t} {a} s f f0 f33 = same (seen_book s f f0 f33 (new_book h q) new-length) (λ z.
       let B = a.books in
       with_books (record {
         present = upd B.present f (head_byte 0 (omega arith) z);
         parent = upd B.parent f (head_byte 1 (omega arith) z);
         due = upd B.due f (head_byte 2 (omega arith) z);
         adopted = upd B.adopted f (head_byte 3 (omega arith) z);
-        ghosts = upd B.ghosts f (λ g. new_ghosts_lem g z);
+        ghosts = upd B.ghosts f (λ g. new-ghosts g z);
         live = upd B.live f (new_square 8 (inl refl) z);
         sent = upd B.sent f (new_square 72 (inr refl) z);
-        asked = upd B.asked f (λ i j. new_asked i j z);
+        asked = upd B.asked f (λ i j. new-asked i j z);
       }) a)

@@ -2,24 +2,24 @@
 use mathlib.Core.Path.{◌≡◌, refl}
 use Prim.Native.Nat.{ℕ}
 use Rattle.model.specs.State.{State}
-use Rattle.model.specs.Effects.Closing.{Closing, stays, ends-ghost, releases, vanishes}
-use Rattle.model.specs.Step.{Spawn, spawns-first, spawns_later, End, ends_unpublished, ends-published, ends_other, ends_last, kills, Settle, adopts, cancels, asks, discards, delivers_publish, delivers_published, delivers_transit, refuses_transit, delivers_granted, loses-granted, delivers_denied, delivers_task, refuses_task, delivers_report, delivers_release, delivers_ghost_ended, delivers_count_dropped, delivers_dropped, Move, spawns, opens, ends, loses, settles}
+use Rattle.model.specs.Effects.Closing.{Closing, stays, ends_ghost, releases, vanishes}
+use Rattle.model.specs.Step.{Spawn, spawns_first, spawns_later, End, ends_unpublished, ends_published, ends_other, ends_last, kills, Settle, adopts, cancels, asks, discards, delivers_publish, delivers_published, delivers_transit, refuses_transit, delivers_granted, loses_granted, delivers_denied, delivers_task, refuses_task, delivers_report, delivers_release, delivers_ghost_ended, delivers_count_dropped, delivers_dropped, Move, spawns, opens, ends, loses, settles}
 
-closing_places : {s s' : State} {f k : ℕ} → Closing s f k s' → s'.places ≡ s.places
+closing_places : {s : State} {f k : ℕ} {s' : State} → Closing s f k s' → s'.places ≡ s.places
 closing_places (stays c) = refl
-closing_places (ends-ghost c a b d) = refl
+closing_places (ends_ghost c a b d) = refl
 closing_places (releases c a b d e) = refl
 closing_places (vanishes c a b) = refl
 
-spawn-places : {s s' : State} {t p : ℕ} → Spawn s t p s' → s'.places ≡ s.places
-spawn-places (spawns-first k r b c d e g h) = refl
-spawn-places (spawns_later k r b c d e) = refl
+spawn_places : {s : State} {t p : ℕ} {s' : State} → Spawn s t p s' → s'.places ≡ s.places
+spawn_places (spawns_first k r b c d e g h) = refl
+spawn_places (spawns_later k r b c d e) = refl
 
-end-places : {s s' : State} {t : ℕ} → End s t s' → s'.places ≡ s.places
-end-places (ends_unpublished r b c d e) = refl
-end-places (ends-published k r b c d e) = refl
-end-places (ends_other r b c) = refl
-end-places (ends_last k r b c d e) = refl
+end_places : {s : State} {t : ℕ} {s' : State} → End s t s' → s'.places ≡ s.places
+end_places (ends_unpublished r b c d e) = refl
+end_places (ends_published k r b c d e) = refl
+end_places (ends_other r b c) = refl
+end_places (ends_last k r b c d e) = refl
 
 settle_places : {s s' : State} → Settle s s' → s'.places ≡ s.places
 settle_places (adopts f a b) = refl
@@ -31,7 +31,7 @@ settle_places (delivers_published k a b c d) = refl
 settle_places (delivers_transit k a b c d e) = refl
 settle_places (refuses_transit k a b c d e) = refl
 settle_places (delivers_granted k a b c d e) = refl
-settle_places (loses-granted k a b c d e) = refl
+settle_places (loses_granted k a b c d e) = refl
 settle_places (delivers_denied k a b c d) = refl
 settle_places (delivers_task k a b c d) = refl
 settle_places (refuses_task k a b c) = refl
@@ -42,8 +42,8 @@ settle_places (delivers_count_dropped k a b c) = refl
 settle_places (delivers_dropped k a b c d e) = closing_places e
 
 pub move_places : {s s' : State} → Move s s' → s'.places ≡ s.places
-move_places (spawns t p m) = spawn-places m
+move_places (spawns t p m) = spawn_places m
 move_places (opens t r) = refl
-move_places (ends t m) = end-places m
+move_places (ends t m) = end_places m
 move_places (loses p (kills a b c)) = refl
 move_places (settles m) = settle_places m

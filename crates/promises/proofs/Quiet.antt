@@ -22,9 +22,9 @@ use Rattle.model.specs.Promises.Quiet.{Quiet}
 use Rattle.promises.proofs.Tests.{not_true}
 use Rattle.promises.proofs.Rows.{read_places, read_dead}
 use Rattle.promises.proofs.Slots.{read_tag, read_slots}
-use Rattle.promises.proofs.BookCells.{read_present, book-range}
+use Rattle.promises.proofs.BookCells.{read_present, book_range}
 use Rattle.promises.proofs.WholeBooks.{read_book}
-use Rattle.promises.proofs.BookTests.{book_repaired, book-asked}
+use Rattle.promises.proofs.BookTests.{book_repaired, book_asked}
 use Rattle.promises.proofs.Held.{Held, book_marks}
 
 -- no part counts
@@ -48,23 +48,23 @@ module _ {t : List ℕ} {a : State} (h : Held t a) (calm : quiet t ≡ true) whe
       let c = count_none is_full 16 128 0 (drop (slot_place 0) t) (eqb-true (messages_in_flight t) 0 (every_each _ calm).0) k l in
       sym (read_tag h.seen k l) ∙ eqb-true (byte (from_slot t k) 0) 0 (not-not _ c)
 
-  calm-book : (f : ℕ) → 0 < f → f < 33 → a.books.present f ≡ 1 → (under_repair (dead_mask t) (book_of t f) ≡ false) × (owes (places t) (dead_mask t) (book_of t f) ≡ false)
+  calm_book_lem : (f : ℕ) → 0 < f → f < 33 → a.books.present f ≡ 1 → (under_repair (dead_mask t) (book_of t f) ≡ false) × (owes (places t) (dead_mask t) (book_of t f) ≡ false)
   unfolding quiet calm_book book_of part
-  calm-book f f0 f33 e =
+  calm_book_lem f f0 f33 e =
       let c = parts_at (calm_book (places t) (dead_mask t)) 144 1 32 (book_place 1) t (f - 1) (book_place f) f (every_each _ calm).1.0 (omega arith) (omega arith) (omega arith) in
       let q : byte (drop (book_place f) t) 0 ≡ 1 = get_or-drop (book_place f) t 0 0 ∙ ap (byte t) (add-zero (book_place f)) ∙ read_present h.seen f f0 f33 ∙ e in
       let r = every_each _ (rw (ne_eqb (byte (drop (book_place f) t) 0) 0 (λ z. omega arith)) at c) in
       (not_true _ r.0, not_true _ r.1.0)
 
   has_one : (f : ℕ) → a.books.present f ≡ 1 → (0 < f) × (f < 33)
-  has_one f e = book-range h.seen f (λ z. omega arith)
+  has_one f e = book_range h.seen f (λ z. omega arith)
 
   pub quiet_state : Quiet a
   quiet_state =
       let s = h.seen in
       record {
         empty = λ k l. empty_slot k (rw (read_slots s) at l);
-        repaired = λ f e. let r = has_one f e in book_repaired (read_book s f r.0 r.1) (dead_mask t) (read_dead s) (book_marks h f r.0 r.1 e).0 (calm-book f r.0 r.1 e).0;
+        repaired = λ f e. let r = has_one f e in book_repaired (read_book s f r.0 r.1) (dead_mask t) (read_dead s) (book_marks h f r.0 r.1 e).0 (calm_book_lem f r.0 r.1 e).0;
         asked = λ f i j e d l n c. let r = has_one f e in
-            book-asked (read_book s f r.0 r.1) (places t) (dead_mask t) (read_dead s) (calm-book f r.0 r.1 e).1 i j d (omega (arith, read_places s)) n c;
+            book_asked (read_book s f r.0 r.1) (places t) (dead_mask t) (read_dead s) (calm_book_lem f r.0 r.1 e).1 i j d (omega (arith, read_places s)) n c;
       }

@@ -15,9 +15,9 @@ use Rattle.rules.specs.Sessions.{is_begin, takes_begin, no_begin, played}
 use Rattle.rules.proofs.Taken.{StepTaken, taken, not-not}
 use Rattle.model.specs.Base.Cases.{bool_cases, both}
 use Rattle.model.specs.Inv.{Inv}
-use Rattle.model.specs.Steps.Begin.{begin-holds}
+use Rattle.model.specs.Steps.Begin.{begin_holds}
 use Rattle.model.specs.Keeps.{move_keeps}
-use Rattle.model.specs.Promises.Stays.{released-stays}
+use Rattle.model.specs.Promises.Stays.{released_stays}
 use Rattle.promises.specs.View.{view}
 use Rattle.promises.proofs.Tests.{not_both}
 use Rattle.promises.proofs.Rows.{read_places}
@@ -32,7 +32,7 @@ use Rattle.promises.proofs.Places.{move_places}
 begin_good : (n : ℕ) → 2 ≤ n → n ≤ 8 → Good (begin_step n)
 begin_good n two most =
     let s = tie_begin n in
-    record { whole = s.whole; bytes = begin_bytes n (omega arith); places-most = omega (arith, read_places s); inv = subst Inv (sym s.is) (begin-holds n 128 two) }
+    record { whole = s.whole; bytes = begin_bytes n (omega arith); places_most = omega (arith, read_places s); inv = subst Inv (sym s.is) (begin_holds n 128 two) }
 
 starts : {t : List ℕ} (x : Action) → is_begin x ≡ true → StepTaken t x → Good (step t x)
 unfolding is_begin not_there step
@@ -70,10 +70,10 @@ module _ {t : List ℕ} (good : Good t) (r : List ℕ) (other : takes_begin t r 
         good = record {
           whole = m.1.whole;
           bytes = action_bytes (good_held t good) x n k.own;
-          places-most = omega (arith, read_places m.1, move_places m.2, read_places (as_seen good), good.places-most);
+          places_most = omega (arith, read_places m.1, move_places m.2, read_places (as_seen good), good.places_most);
           inv = subst Inv (sym m.1.is) (move_keeps good.inv m.2);
         };
-        released = λ f q. rw m.1.is (released-stays f good.inv m.2 q);
+        released = λ f q. rw m.1.is (released_stays f good.inv m.2 q);
       }
 
   pub follows : Follows t (after t r)
@@ -93,10 +93,10 @@ unfolding played
 played_later t [] later = refl
 played_later t (r ∷ rs) later = played_later (after t r) rs later
 
-pub no_begin-first : (t : List ℕ) (rs later : List (List ℕ)) → no_begin t (rs ++ later) ≡ true → no_begin t rs ≡ true
+pub no_begin_first : (t : List ℕ) (rs later : List (List ℕ)) → no_begin t (rs ++ later) ≡ true → no_begin t rs ≡ true
 unfolding no_begin
-no_begin-first t [] later n = refl
-no_begin-first t (r ∷ rs) later n = bool_cases (takes_begin t r) (λ e. both n (rw e refl)) (λ e. rw e (no_begin-first (after t r) rs later (rw e at n)))
+no_begin_first t [] later n = refl
+no_begin_first t (r ∷ rs) later n = bool_cases (takes_begin t r) (λ e. both n (rw e refl)) (λ e. rw e (no_begin_first (after t r) rs later (rw e at n)))
 
 pub no_begin_later : (t : List ℕ) (rs later : List (List ℕ)) → no_begin t (rs ++ later) ≡ true → no_begin (played t rs) later ≡ true
 unfolding no_begin played

@@ -21,7 +21,7 @@ use Rattle.model.specs.State.{State, with_slot}
 use Rattle.model.specs.Messages
 use Rattle.model.specs.Guards.{Free}
 use Rattle.promises.specs.View.{cell, view, view_of, rows, message_of, slot_table}
-use Rattle.promises.proofs.Cells.{write_outside, cell_in, cell_out, cell-wide, cell-write, run_row}
+use Rattle.promises.proofs.Cells.{write_outside, cell_in, cell_out, cell_wide, cell-write, run_row}
 use Rattle.promises.proofs.Walks.{zeros_at}
 use Rattle.promises.proofs.Areas.{slot_sits, slots_become}
 use Rattle.promises.proofs.Seen.{Seen, by_write}
@@ -125,29 +125,29 @@ module _ {t : List ℕ} {a : State} (s : Seen t a) (k : ℕ) (k128 : k < 128) wh
       by_write (λ y. with_slot (upd y.slot k (in_model x)) y) s (slot_place k) (bytes_of x)
       (ap view_of (slots_become (write_outside t (slot_place k) (bytes_of x) 16 13056 15104 l (omega arith) (omega arith))
       (cell-write slot_table slot_sits t k 0 16 (slot_place k) (bytes_of x) l refl (omega arith) (omega arith) k128 (omega arith)
-      ∙ run_row (cell t slot_table) k 16 (byte (bytes_of x)) (λ y j g. cell-wide slot_table t y j g) (λ j g. get_or-eq_default (bytes_of x) 0 (omega arith))))
+      ∙ run_row (cell t slot_table) k 16 (byte (bytes_of x)) (λ y j g. cell_wide slot_table t y j g) (λ j g. get_or-eq_default (bytes_of x) 0 (omega arith))))
       ∙ (λ z. with_slot (slot_row_lem (cell t slot_table) k (byte (bytes_of x)) z) (view_of (rows t)))
       ∙ (λ z. with_slot (upd (λ y. message_of (cell t slot_table y)) k (bytes_are x z)) (view_of (rows t))))
 
-  slot-byte : (j : ℕ) → j < 16 → byte (from_slot t k) j ≡ cell t slot_table k j
+  slot_byte : (j : ℕ) → j < 16 → byte (from_slot t k) j ≡ cell t slot_table k j
   unfolding from_slot
-  slot-byte j h =
+  slot_byte j h =
       let p : 13056 + (16 * k + j) ≡ place (slot_row k) j = omega arith in
       get_or-drop (16 * k) (drop (slot_place 0) t) j 0 ∙ get_or-drop (slot_place 0) t (16 * k + j) 0 ∙ ap (byte t) p ∙ sym (cell_in slot_table t k j h (omega arith) k128)
 
   pub read_message : message_at t k ≡ tagged (a.slot k).tag (a.slot k).finish (a.slot k).task (a.slot k).from (a.slot k).to (a.slot k).number (counts_at t k)
   unfolding message_at message_in view
   read_message =
-      rw (slot-byte 0 (omega arith), slot-byte 1 (omega arith), slot-byte 2 (omega arith), slot-byte 3 (omega arith), slot-byte 4 (omega arith), slot-byte 5 (omega arith))
+      rw (slot_byte 0 (omega arith), slot_byte 1 (omega arith), slot_byte 2 (omega arith), slot_byte 3 (omega arith), slot_byte 4 (omega arith), slot_byte 5 (omega arith))
       (ap (λ (y : State). tagged (y.slot k).tag (y.slot k).finish (y.slot k).task (y.slot k).from (y.slot k).to (y.slot k).number (counts_at t k)) s.is)
 
   pub read_tag : byte (from_slot t k) 0 ≡ (a.slot k).tag
   unfolding view
-  read_tag = slot-byte 0 (omega arith) ∙ ap (λ (y : State). (y.slot k).tag) s.is
+  read_tag = slot_byte 0 (omega arith) ∙ ap (λ (y : State). (y.slot k).tag) s.is
 
-  pub read_slot-finish : byte (from_slot t k) 1 ≡ (a.slot k).finish
+  pub read_slot_finish : byte (from_slot t k) 1 ≡ (a.slot k).finish
   unfolding view
-  read_slot-finish = slot-byte 1 (omega arith) ∙ ap (λ (y : State). (y.slot k).finish) s.is
+  read_slot_finish = slot_byte 1 (omega arith) ∙ ap (λ (y : State). (y.slot k).finish) s.is
 
   pub read_empty : is_empty (from_slot t k) k ≡ eqb (a.slot k).tag 0
   unfolding is_empty
@@ -160,8 +160,8 @@ module _ {t : List ℕ} {a : State} (s : Seen t a) (k : ℕ) (k128 : k < 128) wh
   pub read_counts : (i : ℕ) → byte (counts_at t k) i ≡ (a.slot k).counts i
   unfolding view
   read_counts i = bool_cases (ltb i 8)
-      (λ e. byte-part (from_slot t k) 8 8 i (ltb-true i 8 e) ∙ slot-byte (8 + i) (omega (arith, ltb-true i 8 e)))
-      (λ e. get_or-eq_default (counts_at t k) 0 (omega (arith, ltb-false i 8 e, counts-length)) ∙ sym (cell-wide slot_table t k (8 + i) (omega (arith, ltb-false i 8 e))))
+      (λ e. byte-part (from_slot t k) 8 8 i (ltb-true i 8 e) ∙ slot_byte (8 + i) (omega (arith, ltb-true i 8 e)))
+      (λ e. get_or-eq_default (counts_at t k) 0 (omega (arith, ltb-false i 8 e, counts-length)) ∙ sym (cell_wide slot_table t k (8 + i) (omega (arith, ltb-false i 8 e))))
       ∙ ap (λ (y : State). (y.slot k).counts i) s.is
 
 -- 128 slots, and no other is full
@@ -169,21 +169,21 @@ pub read_slots : {t : List ℕ} {a : State} → Seen t a → a.slots ≡ 128
 unfolding view
 read_slots s = ap (λ (y : State). y.slots) (sym s.is)
 
-pub slot-range : {t : List ℕ} {a : State} → Seen t a → (k : ℕ) → ((a.slot k).tag ≡ 0 → ⊥) → k < 128
+pub slot_range : {t : List ℕ} {a : State} → Seen t a → (k : ℕ) → ((a.slot k).tag ≡ 0 → ⊥) → k < 128
 unfolding view
-slot-range {t} s k n = bool_cases (ltb k 128)
+slot_range {t} s k n = bool_cases (ltb k 128)
     (λ l. ltb-true k 128 l)
     (λ l. absurd (n (ap (λ (y : State). (y.slot k).tag) (sym s.is) ∙ cell_out slot_table t k 0 (rw (le-leb 0 k (omega arith), l) refl))))
 
 -- ---- a new message takes the lowest empty slot
 module _ {t : List ℕ} {a : State} (s : Seen t a) (room : slots_full t ≡ false) where
-  pub lowest-range : lowest_empty t < 128
+  pub lowest_range : lowest_empty t < 128
   unfolding slots_full lowest_empty
-  lowest-range = let r = first_range is_empty 16 128 0 (drop (slot_place 0) t) in let n = eqb-false (lowest_empty t) 128 room in omega (arith, r.1)
+  lowest_range = let r = first_range is_empty 16 128 0 (drop (slot_place 0) t) in let n = eqb-false (lowest_empty t) 128 room in omega (arith, r.1)
 
   lowest_empty_lem : is_empty (drop (13056 + 16 * lowest_empty t) t) (lowest_empty t) ≡ true
   unfolding lowest_empty
-  lowest_empty_lem = first-at is_empty 16 0 128 (slot_place 0) t (lowest_empty t) (13056 + 16 * lowest_empty t) (lowest_empty t) refl lowest-range refl (omega arith)
+  lowest_empty_lem = first-at is_empty 16 0 128 (slot_place 0) t (lowest_empty t) (13056 + 16 * lowest_empty t) (lowest_empty t) refl lowest_range refl (omega arith)
 
   pub lowest_free : Free a (lowest_empty t)
   unfolding is_empty view
@@ -191,9 +191,9 @@ module _ {t : List ℕ} {a : State} (s : Seen t a) (room : slots_full t ≡ fals
       let k = lowest_empty t in
       let p : 13056 + 16 * lowest_empty t + 0 ≡ place (slot_row (lowest_empty t)) 0 = omega arith in
       record {
-        range = rw (read_slots s) lowest-range;
+        range = rw (read_slots s) lowest_range;
         tag =
-            ap (λ (y : State). (y.slot k).tag) (sym s.is) ∙ cell_in slot_table t k 0 (omega arith) (omega arith) lowest-range
+            ap (λ (y : State). (y.slot k).tag) (sym s.is) ∙ cell_in slot_table t k 0 (omega arith) (omega arith) lowest_range
             ∙ sym (get_or-drop (13056 + 16 * k) t 0 0 ∙ ap (byte t) p) ∙ eqb-true (byte (drop (13056 + 16 * k) t) 0) 0 lowest_empty_lem;
       }
 

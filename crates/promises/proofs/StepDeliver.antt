@@ -21,14 +21,14 @@ use Rattle.model.specs.State.{State}
 use Rattle.model.specs.Guards.{Full, MayRun}
 use Rattle.model.specs.Effects.Deliver
 use Rattle.model.specs.Effects.Deliver.{empty}
-use Rattle.model.specs.Step.{Settle, delivers_published, delivers_granted, loses-granted, delivers_denied, delivers_task, refuses_task, delivers_release, delivers_count_dropped}
+use Rattle.model.specs.Step.{Settle, delivers_published, delivers_granted, loses_granted, delivers_denied, delivers_task, refuses_task, delivers_release, delivers_count_dropped}
 use Rattle.promises.proofs.Tests.{not_true, some_other}
-use Rattle.promises.proofs.Rows.{read_places, read_tasks-made, read_finishes-made, read_dead, read_home, read_task-status, read_finish-status, read_task-maker, read_opener}
+use Rattle.promises.proofs.Rows.{read_places, read_tasks_made, read_finishes_made, read_dead, read_home, read_task_status, read_finish_status, read_task_maker, read_opener}
 use Rattle.promises.proofs.Slots.{counts_at, read_message, read_slots}
 use Rattle.promises.proofs.LocalCells.{read_received, read_denied}
-use Rattle.promises.proofs.Held.{Held, places-most, task-fits, finish-fits}
+use Rattle.promises.proofs.Held.{Held, places_most, task-fits, finish_fits_lem}
 use Rattle.promises.proofs.Moved.{Moved, may_run_lem}
-use Rattle.promises.proofs.TieDeliver.{tie_empty, tie_deliver-published, tie_deliver-denied, tie_deliver-granted, tie_lose_granted, tie_deliver-task, tie_deliver-release, tie_deliver_count_dropped}
+use Rattle.promises.proofs.TieDeliver.{tie_empty, tie_deliver_published, tie_deliver_denied, tie_deliver_granted, tie_lose_granted, tie_deliver_task, tie_deliver_release, tie_deliver_count_dropped}
 
 -- a message that is neither discarded nor held
 pub record Goes (t : List ℕ) (x : Message) : Type 0 where
@@ -58,32 +58,32 @@ module _ {t : List ℕ} {a : State} (h : Held t a) (k : ℕ) (taken : StepTaken 
 
   -- made numbers and places, in the state
   pub finish_in : (f : ℕ) → Made (finishes_made t) f → (0 < f) × (f ≤ a.finishes.made)
-  finish_in f r = (r.0, omega (arith, r.1, read_finishes-made h.seen))
+  finish_in f r = (r.0, omega (arith, r.1, read_finishes_made h.seen))
 
   pub task_in : (x : ℕ) → Made (tasks_made t) x → (0 < x) × (x ≤ a.tasks.made)
-  task_in x r = (r.0, omega (arith, r.1, read_tasks-made h.seen))
+  task_in x r = (r.0, omega (arith, r.1, read_tasks_made h.seen))
 
   pub place_in : (v : ℕ) → v < places t → v < 8
-  place_in v r = omega (arith, read_places h.seen, places-most h)
+  place_in v r = omega (arith, read_places h.seen, places_most h)
 
   module _ (f x v j n : ℕ) where
-    pub published-moves : (a.slot k).tag ≡ 2 → message_at t k ≡ published f x → (a.slot k).finish ≡ f → (a.slot k).task ≡ x → Moved (Settle a) (deliver_step t k)
+    pub published_moves : (a.slot k).tag ≡ 2 → message_at t k ≡ published f x → (a.slot k).finish ≡ f → (a.slot k).task ≡ x → Moved (Settle a) (deliver_step t k)
     unfolding deliver_step deliver_message discarded delivered fits goes_to
-    published-moves e m is_finish is-task =
+    published_moves e m is_finish is-task =
         let s = h.seen in
         let r = ranges (published f x) m in
         let f_in = finish_in f r.0 in
         let x_in = task_in x r.1 in
-        let f33 = (finish-fits h f f_in.0 f_in.1).number in
+        let f33 = (finish_fits_lem h f f_in.0 f_in.1).number in
         let x256 = (task-fits h x x_in.0 x_in.1).number in
         let g = goes (published f x) m refl in
         let w = every_each _ g.fit in
         rw m (
           Deliver.deliver_published a k,
-          tie_deliver-published s k k_there x x_in.0 x256 is-task f is_finish f_in.0 f33,
+          tie_deliver_published s k k_there x x_in.0 x256 is-task f is_finish f_in.0 f33,
           delivers_published k (full 2 e) (rw (is_finish, sym (read_home s f f_in.0 f33), sym (read_dead s (home t f))) g.alive)
-              (rw is_finish (sym (read_finish-status s f f_in.0 f33) ∙ eqb-true (finish_status t f) 2 w.0))
-              (rw is-task (sym (read_task-status s x x_in.0 x256) ∙ eqb-true (task_status t x) 1 w.1.0)),
+              (rw is_finish (sym (read_finish_status s f f_in.0 f33) ∙ eqb-true (finish_status t f) 2 w.0))
+              (rw is-task (sym (read_task_status s x x_in.0 x256) ∙ eqb-true (task_status t x) 1 w.1.0)),
         )
 
     -- 4 and 5 want the task waiting for transit, and its spawner blocked
@@ -93,14 +93,14 @@ module _ {t : List ℕ} {a : State} (h : Held t a) (k : ℕ) (taken : StepTaken 
         let s = h.seen in
         let r = task-fits h x x_in.0 x_in.1 in
         let w = every_each _ (sym e ∙ g.fit) in (
-          sym (read_task-status s x x_in.0 r.number) ∙ eqb-true (task_status t x) 2 w.0,
-          may_run_lem s (a.tasks.maker x) r.maker (rw (read_task-maker s x x_in.0 r.number) at w.1.0),
+          sym (read_task_status s x x_in.0 r.number) ∙ eqb-true (task_status t x) 2 w.0,
+          may_run_lem s (a.tasks.maker x) r.maker (rw (read_task_maker s x x_in.0 r.number) at w.1.0),
         )
 
     module _ (is_finish : (a.slot k).finish ≡ f) (is-task : (a.slot k).task ≡ x) (is-from : (a.slot k).from ≡ v) (is-to : (a.slot k).to ≡ j) where
-      pub granted-moves : (a.slot k).tag ≡ 4 → message_at t k ≡ granted f x v j → Moved (Settle a) (deliver_step t k)
+      pub granted_moves : (a.slot k).tag ≡ 4 → message_at t k ≡ granted f x v j → Moved (Settle a) (deliver_step t k)
       unfolding deliver_step deliver_message discarded delivered fits goes_to
-      granted-moves e m =
+      granted_moves e m =
           let s = h.seen in
           let r = ranges (granted f x v j) m in
           let x_in = task_in x r.0.1 in
@@ -111,12 +111,12 @@ module _ {t : List ℕ} {a : State} (h : Held t a) (k : ℕ) (taken : StepTaken 
           let status = rw (← is-task) at w.0 in
           let may = rw (← is-task) at w.1 in
           rw m (bool_cases (a.dead j)
-          (λ d. (Deliver.loseGranted a k, tie_lose_granted s k k_there x x_in.0 own.number is-task f v j is_finish is-from is-to own.maker d, loses-granted k (full 4 e) lives status may (rw is-to d)))
-          (λ d. (Deliver.deliver_granted a k, tie_deliver-granted s k k_there x x_in.0 own.number is-task f v j is_finish is-from is-to own.maker d, delivers_granted k (full 4 e) lives status may (rw is-to d))))
+          (λ d. (Deliver.lose_granted a k, tie_lose_granted s k k_there x x_in.0 own.number is-task f v j is_finish is-from is-to own.maker d, loses_granted k (full 4 e) lives status may (rw is-to d)))
+          (λ d. (Deliver.deliver_granted a k, tie_deliver_granted s k k_there x x_in.0 own.number is-task f v j is_finish is-from is-to own.maker d, delivers_granted k (full 4 e) lives status may (rw is-to d))))
 
-      pub denied-moves : (a.slot k).tag ≡ 5 → message_at t k ≡ denied f x v j → Moved (Settle a) (deliver_step t k)
+      pub denied_moves : (a.slot k).tag ≡ 5 → message_at t k ≡ denied f x v j → Moved (Settle a) (deliver_step t k)
       unfolding deliver_step deliver_message discarded delivered fits goes_to
-      denied-moves e m =
+      denied_moves e m =
           let s = h.seen in
           let r = ranges (denied f x v j) m in
           let x_in = task_in x r.0.1 in
@@ -125,18 +125,18 @@ module _ {t : List ℕ} {a : State} (h : Held t a) (k : ℕ) (taken : StepTaken 
           let w = waits (denied f x v j) g x_in refl in
           rw m (
             Deliver.deliver_denied a k,
-            tie_deliver-denied s k k_there x x_in.0 own.number is-task own.maker,
+            tie_deliver_denied s k k_there x x_in.0 own.number is-task own.maker,
             delivers_denied k (full 5 e) (rw is-from (sym (read_dead s v) ∙ g.alive)) (rw (← is-task) at w.0) (rw (← is-task) at w.1),
           )
 
-      pub task-moves : (a.slot k).tag ≡ 6 → message_at t k ≡ task f x v j → Moved (Settle a) (deliver_step t k)
+      pub task_moves : (a.slot k).tag ≡ 6 → message_at t k ≡ task f x v j → Moved (Settle a) (deliver_step t k)
       unfolding deliver_step deliver_message discarded delivered fits goes_to deliver_task some_of
-      task-moves e m =
+      task_moves e m =
           let s = h.seen in
           let r = ranges (task f x v j) m in
           let f_in = finish_in f r.0.0 in
           let x_in = task_in x r.0.1 in
-          let f33 = (finish-fits h f f_in.0 f_in.1).number in
+          let f33 = (finish_fits_lem h f f_in.0 f_in.1).number in
           let x256 = (task-fits h x x_in.0 x_in.1).number in
           let v8 = place_in v r.1.0 in
           let j8 = place_in j r.1.1 in
@@ -148,17 +148,17 @@ module _ {t : List ℕ} {a : State} (h : Held t a) (k : ℕ) (taken : StepTaken 
           (λ d. let w = every_each _ (some_other _ _ g.fit d) in
           rw d (
             Deliver.deliver_task a k,
-            tie_deliver-task s k k_there x x_in.0 x256 is-task f v j is_finish is-from is-to f_in.0 f33 v8 j8,
-            delivers_task k (full 6 e) lives (sym is_denied ∙ d) (rw is-task (sym (read_task-status s x x_in.0 x256) ∙ eqb-true (task_status t x) 3 w.0)),
+            tie_deliver_task s k k_there x x_in.0 x256 is-task f v j is_finish is-from is-to f_in.0 f33 v8 j8,
+            delivers_task k (full 6 e) lives (sym is_denied ∙ d) (rw is-task (sym (read_task_status s x x_in.0 x256) ∙ eqb-true (task_status t x) 3 w.0)),
           )))
 
-      pub count_dropped-moves : (a.slot k).tag ≡ 10 → (a.slot k).number ≡ n → message_at t k ≡ count_dropped f x v j n → Moved (Settle a) (deliver_step t k)
+      pub count_dropped_moves : (a.slot k).tag ≡ 10 → (a.slot k).number ≡ n → message_at t k ≡ count_dropped f x v j n → Moved (Settle a) (deliver_step t k)
       unfolding deliver_step deliver_message discarded delivered fits goes_to
-      count_dropped-moves e is_number m =
+      count_dropped_moves e is_number m =
           let s = h.seen in
           let r = ranges (count_dropped f x v j n) m in
           let f_in = finish_in f r.0 in
-          let f33 = (finish-fits h f f_in.0 f_in.1).number in
+          let f33 = (finish_fits_lem h f f_in.0 f_in.1).number in
           let v8 = place_in v r.1.0 in
           let j8 = place_in j r.1.1 in
           let g = goes (count_dropped f x v j n) m refl in
@@ -169,18 +169,18 @@ module _ {t : List ℕ} {a : State} (h : Held t a) (k : ℕ) (taken : StepTaken 
                 (rw (is_finish, is-to, is-from, is_number) (omega (arith, leb-true (received t f j v) n g.fit, read_received s f j f_in.0 f33 j8 v v8))),
           )
 
-    pub release-moves : (a.slot k).tag ≡ 8 → message_at t k ≡ release f → (a.slot k).finish ≡ f → Moved (Settle a) (deliver_step t k)
+    pub release_moves : (a.slot k).tag ≡ 8 → message_at t k ≡ release f → (a.slot k).finish ≡ f → Moved (Settle a) (deliver_step t k)
     unfolding deliver_step deliver_message discarded delivered fits goes_to
-    release-moves e m is_finish =
+    release_moves e m is_finish =
         let s = h.seen in
         let f_in = finish_in f (ranges (release f) m) in
-        let own = finish-fits h f f_in.0 f_in.1 in
+        let own = finish_fits_lem h f f_in.0 f_in.1 in
         let g = goes (release f) m refl in
         let w = every_each _ g.fit in
         rw m (
           Deliver.deliver_release a k,
-          tie_deliver-release s k k_there f is_finish f_in.0 own.number own.opener,
+          tie_deliver_release s k k_there f is_finish f_in.0 own.number own.opener,
           delivers_release k (full 8 e) (rw (is_finish, sym (read_home s f f_in.0 own.number), sym (read_dead s (home t f))) g.alive)
-              (rw is_finish (sym (read_finish-status s f f_in.0 own.number) ∙ eqb-true (finish_status t f) 3 w.0))
+              (rw is_finish (sym (read_finish_status s f f_in.0 own.number) ∙ eqb-true (finish_status t f) 3 w.0))
               (rw is_finish (may_run_lem s (a.finishes.opener f) own.opener (rw (read_opener s f f_in.0 own.number) at w.1.0))),
         )

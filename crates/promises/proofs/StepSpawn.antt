@@ -14,19 +14,19 @@ use Rattle.rules.specs.Refusals.{not_there, wrong_place, not_ready, no_room, unw
 use Rattle.rules.proofs.Taken.{StepTaken, not-not, neither}
 use Rattle.model.specs.Base.Cases.{bool_cases, both}
 use Rattle.model.specs.State.{State}
-use Rattle.model.specs.Effects.Spawn.{spawnFirst, spawnLater}
+use Rattle.model.specs.Effects.Spawn.{spawn_first, spawn_later}
 use Rattle.model.specs.Effects.Open
-use Rattle.model.specs.Step.{Spawn, Move, spawns-first, spawns_later, opens}
-use Rattle.promises.proofs.Rows.{read_places, read_tasks-made, read_finishes-made, read_task-at, read_task-finish, read_task-sent, read_published, read_finish-status}
-use Rattle.promises.proofs.Slots.{lowest-range, lowest_free}
-use Rattle.promises.proofs.Held.{Held, finishes-made-most, task-fits}
+use Rattle.model.specs.Step.{Spawn, Move, spawns_first, spawns_later, opens}
+use Rattle.promises.proofs.Rows.{read_places, read_tasks_made, read_finishes_made, read_task_at, read_task_finish, read_task_sent, read_published, read_finish_status}
+use Rattle.promises.proofs.Slots.{lowest_range, lowest_free}
+use Rattle.promises.proofs.Held.{Held, finishes_made_most, task-fits}
 use Rattle.promises.proofs.Moved.{Moved, task-runs}
-use Rattle.promises.proofs.TieSpawn.{tie_spawn-first, tie_spawn_later, tie_open}
+use Rattle.promises.proofs.TieSpawn.{tie_spawn_first, tie_spawn_later, tie_open}
 
 module _ {t : List ℕ} {a : State} (h : Held t a) (k : ℕ) where
-  pub spawn-moves : (p : ℕ) → StepTaken t (spawn k p) → Moved (Spawn a k p) (spawn_step t k p)
+  pub spawn_moves : (p : ℕ) → StepTaken t (spawn k p) → Moved (Spawn a k p) (spawn_step t k p)
   unfolding not_there wrong_place not_ready no_room unwanted spawn_step is_first is_main spawn_wanted in_session
-  spawn-moves p taken =
+  spawn_moves p taken =
       let s = h.seen in
       let there = every_each _ (not-not _ taken.there) in
       let runs = task-runs h k there.0 taken.ready in
@@ -34,28 +34,28 @@ module _ {t : List ℕ} {a : State} (h : Held t a) (k : ℕ) where
       let fits = task-fits h k k0 runs.high in
       let k256 = fits.number in
       let room = neither _ _ taken.room in
-      let made : a.tasks.made < 255 = omega (arith, leb-false 255 (tasks_made t) room.0, read_tasks-made s) in
+      let made : a.tasks.made < 255 = omega (arith, leb-false 255 (tasks_made t) room.0, read_tasks_made s) in
       let inside : p < a.places = omega (arith, ltb-true p (places t) there.1.0, read_places s) in
-      let away : a.tasks.at k ≡ p → ⊥ = λ e. eqb-false (task_at t k) p taken.right_place (read_task-at s k k0 k256 ∙ e) in
+      let away : a.tasks.at k ≡ p → ⊥ = λ e. eqb-false (task_at t k) p taken.right_place (read_task_at s k k0 k256 ∙ e) in
       let f = a.tasks.finish k in
-      let f0 = fits.finish-low in
-      let f33 : a.tasks.finish k < 33 = omega (arith, fits.finish-high, finishes-made-most h) in
-      let is_finish : task_finish t k ≡ a.tasks.finish k = read_task-finish s k k0 k256 in
-      let is_sent : task_sent t k ≡ a.tasks.sent k = read_task-sent s k k0 k256 in
+      let f0 = fits.finish_low in
+      let f33 : a.tasks.finish k < 33 = omega (arith, fits.finish_high, finishes_made_most h) in
+      let is_finish : task_finish t k ≡ a.tasks.finish k = read_task_finish s k k0 k256 in
+      let is_sent : task_sent t k ≡ a.tasks.sent k = read_task_sent s k k0 k256 in
       let i = lowest_empty t in
-      let i128 = lowest-range s room.1 in
+      let i128 = lowest_range s room.1 in
       let free = lowest_free s room.1 in
       let is_published_lem : is_published t (task_finish t k) ≡ a.finishes.published f = ap (is_published t) is_finish ∙ read_published s f f0 f33 in
-      let is_status : finish_status t (task_finish t k) ≡ a.finishes.status f = ap (finish_status t) is_finish ∙ read_finish-status s f f0 f33 in
+      let is_status : finish_status t (task_finish t k) ≡ a.finishes.status f = ap (finish_status t) is_finish ∙ read_finish_status s f f0 f33 in
       let active : a.tasks.sent k ≡ 0 → a.finishes.status f ≡ 1 = λ e.
       sym is_status ∙ eqb-true (finish_status t (task_finish t k)) 1 (rw (eq-eqb (task_sent t k) 0 (is_sent ∙ e)) at (not-not (spawn_wanted t k) taken.wanted)) in
       bool_cases (is_first t k)
       (λ e. let first = every_each _ e in
       let main : a.tasks.sent k ≡ 0 = sym is_sent ∙ eqb-true (task_sent t k) 0 first.0 in
       let hidden : a.finishes.published f ≡ 0 = sym is_published_lem ∙ eqb-true (is_published t (task_finish t k)) 0 first.1.0 in
-      rw e (spawnFirst a k p i, tie_spawn-first s k k0 k256 made p i f0 f33 i128, spawns-first i runs inside away free main hidden (active main)))
+      rw e (spawn_first a k p i, tie_spawn_first s k k0 k256 made p i f0 f33 i128, spawns_first i runs inside away free main hidden (active main)))
       (λ e. rw e (
-        spawnLater a k p i,
+        spawn_later a k p i,
         tie_spawn_later s k k0 k256 made p i i128,
         spawns_later i runs inside away free (λ main.
             ((λ hidden. both (each_every _ (eq-eqb (task_sent t k) 0 (is_sent ∙ main), (eq-eqb (is_published t (task_finish t k)) 0 (is_published_lem ∙ hidden), tt))) e), active main)),
@@ -68,6 +68,6 @@ module _ {t : List ℕ} {a : State} (h : Held t a) (k : ℕ) where
       let runs = task-runs h k (not-not (task_made t k) taken.there) taken.ready in
       let room = neither _ _ taken.room in (
         Open.open_finish a k,
-        tie_open s k runs.low (task-fits h k runs.low runs.high).number (omega (arith, leb-false 255 (tasks_made t) room.0, read_tasks-made s)) (omega (arith, leb-false 32 (finishes_made t) room.1, read_finishes-made s)),
+        tie_open s k runs.low (task-fits h k runs.low runs.high).number (omega (arith, leb-false 255 (tasks_made t) room.0, read_tasks_made s)) (omega (arith, leb-false 32 (finishes_made t) room.1, read_finishes_made s)),
         opens k runs,
       )

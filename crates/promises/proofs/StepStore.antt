@@ -17,7 +17,7 @@ use Rattle.rules.specs.Books.{book_of, under_repair}
 use Rattle.rules.specs.Messages.{Message, publish, transit, report, ghost_ended, dropped, message_at, none}
 use Rattle.rules.specs.Closing.{closing_test}
 use Rattle.rules.specs.Deliver.{book_absent, discarded, waits_for_repair, lowers, fits, delivered, deliver_message, deliver_step, nearest}
-use Rattle.rules.specs.Deliver.{deliver_report as reportRule, deliver_ghost_ended as ghostEndedRule, deliver_dropped as droppedRule}
+use Rattle.rules.specs.Deliver.{deliver_report as report_rule, deliver_ghost_ended as ghost_ended_rule, deliver_dropped as dropped_rule}
 use Rattle.rules.proofs.Taken.{StepTaken, neither}
 use Rattle.sound.proofs.Use.{Made}
 use Rattle.model.specs.Base.Cases.{bool_cases}
@@ -31,18 +31,18 @@ use Rattle.model.specs.Effects.Deliver.{empty}
 use Rattle.model.specs.Step.{Settle, discards, delivers_publish, delivers_transit, refuses_transit, delivers_report, delivers_ghost_ended, delivers_dropped}
 use Rattle.promises.proofs.Tests.{one_of, below_all}
 use Rattle.promises.proofs.Seen.{Seen}
-use Rattle.promises.proofs.Rows.{read_dead, read_home, read_finish-status}
+use Rattle.promises.proofs.Rows.{read_dead, read_home, read_finish_status}
 use Rattle.promises.proofs.Slots.{counts_at, counts-length, read_counts, read_slots}
 use Rattle.promises.proofs.BookCells.{read_present, read_live, book_there}
 use Rattle.promises.proofs.WholeBooks.{read_book}
 use Rattle.promises.proofs.BookBytes.{square, square_in}
 use Rattle.promises.proofs.BookTests.{book_repaired}
 use Rattle.promises.proofs.Bytes.{Bytes, bytes_set, bytes_emptied, bytes_lowered, bytes_ghost_ended}
-use Rattle.promises.proofs.Held.{Held, finishes-made-most, task-fits, finish-fits, present_mark, book_marks}
+use Rattle.promises.proofs.Held.{Held, finishes_made_most, task-fits, finish_fits_lem, present_mark, book_marks}
 use Rattle.promises.proofs.Moved.{Moved}
 use Rattle.promises.proofs.StepDeliver.{k_there, goes, ranges, full, finish_in, task_in, place_in}
-use Rattle.promises.proofs.TieDeliver.{tie_empty, tie_deliver-transit, tie_refuse-transit}
-use Rattle.promises.proofs.TiePublish.{climb, tie_deliver-publish}
+use Rattle.promises.proofs.TieDeliver.{tie_empty, tie_deliver_transit, tie_refuse_transit}
+use Rattle.promises.proofs.TiePublish.{climb, tie_deliver_publish}
 use Rattle.promises.proofs.TieClosing.{tie_closing, tie_report, tie_ghost_ended, tie_dropped}
 
 module _ {t : List ℕ} {a : State} (h : Held t a) (k : ℕ) (taken : StepTaken t (deliver k)) (f x v j n : ℕ) (f_made : Made (finishes_made t) f) (is_finish : (a.slot k).finish ≡ f) where
@@ -50,7 +50,7 @@ module _ {t : List ℕ} {a : State} (h : Held t a) (k : ℕ) (taken : StepTaken 
   f0 = f_made.0
 
   f33 : f < 33
-  f33 = let r = finish_in h k taken f f_made in (finish-fits h f r.0 r.1).number
+  f33 = let r = finish_in h k taken f f_made in (finish_fits_lem h f r.0 r.1).number
 
   -- the book of f: absent, or present and a mark
   absent : book_absent t f ≡ true → a.books.present (a.slot k).finish ≡ 0
@@ -83,12 +83,12 @@ module _ {t : List ℕ} {a : State} (h : Held t a) (k : ℕ) (taken : StepTaken 
   adopted_mark : book_absent t f ≡ false → a.books.adopted f ≤ 1
   adopted_mark e = (book_marks h f f0 f33 (there e)).1
 
-  pub publish-moves : (a.slot k).tag ≡ 1 → (a.slot k).task ≡ x → message_at t k ≡ publish f x → Moved (Settle a) (deliver_step t k)
+  pub publish_moves : (a.slot k).tag ≡ 1 → (a.slot k).task ≡ x → message_at t k ≡ publish f x → Moved (Settle a) (deliver_step t k)
   unfolding deliver_step deliver_message discarded delivered fits book_absent
-  publish-moves e is-task m =
+  publish_moves e is-task m =
       let s = h.seen in
       let made = finish_in h k taken f f_made in
-      let own = finish-fits h f made.0 made.1 in
+      let own = finish_fits_lem h f made.0 made.1 in
       let is_dead : dead t (home t f) ≡ a.dead (a.finishes.home (a.slot k).finish) = ap (dead t) (read_home s f f0 f33) ∙ read_dead s (a.finishes.home f) ∙ rw is_finish refl in
       bool_cases (dead t (home t f))
       (λ d. thrown (publish-lost e (sym is_dead ∙ d)) (publish f x) m d)
@@ -97,15 +97,15 @@ module _ {t : List ℕ} {a : State} (h : Held t a) (k : ℕ) (taken : StepTaken 
       let q = nearest t 32 (a.finishes.parent f) in
       rw (m, d) (
         Deliver.deliver_publish a k q,
-        tie_deliver-publish s k f x (k_there h k taken) is_finish is-task f0 f33 own.home,
-        delivers_publish k q (full h k taken 1 e) (sym is_dead ∙ d) (rw is_finish (sym (read_finish-status s f f0 f33) ∙ eqb-true (finish_status t f) 2 w.0)) (absent w.1.0)
-            (rw is_finish (climb s a.finishes.made (finishes-made-most h) (λ y p l. (finish-fits h y p l).parent) (λ y p l. present_mark h y p (finish-fits h y p l).number)
+        tie_deliver_publish s k f x (k_there h k taken) is_finish is-task f0 f33 own.home,
+        delivers_publish k q (full h k taken 1 e) (sym is_dead ∙ d) (rw is_finish (sym (read_finish_status s f f0 f33) ∙ eqb-true (finish_status t f) 2 w.0)) (absent w.1.0)
+            (rw is_finish (climb s a.finishes.made (finishes_made_most h) (λ y p l. (finish_fits_lem h y p l).parent) (λ y p l. present_mark h y p (finish_fits_lem h y p l).number)
             32 (a.finishes.parent f) (omega (arith, own.parent)) (omega (arith, own.parent, made.1)))),
       ))
 
-  pub transit-moves : (a.slot k).tag ≡ 3 → (a.slot k).task ≡ x → (a.slot k).from ≡ v → (a.slot k).to ≡ j → message_at t k ≡ transit f x v j → Moved (Settle a) (deliver_step t k)
+  pub transit_moves : (a.slot k).tag ≡ 3 → (a.slot k).task ≡ x → (a.slot k).from ≡ v → (a.slot k).to ≡ j → message_at t k ≡ transit f x v j → Moved (Settle a) (deliver_step t k)
   unfolding deliver_step deliver_message discarded delivered waits_for_repair
-  transit-moves e is-task is-from is-to m =
+  transit_moves e is-task is-from is-to m =
       let s = h.seen in
       let r = ranges h k taken (transit f x v j) m in
       let x_in = task_in h k taken x r.0.1 in
@@ -120,12 +120,12 @@ module _ {t : List ℕ} {a : State} (h : Held t a) (k : ℕ) (taken : StepTaken 
       let is_there : a.books.present (a.slot k).finish ≡ 1 = rw is_finish (there o.1) in
       let calm = repaired o.1 g.calm in
       rw (m, d) (bool_cases (a.dead j)
-      (λ y. (Deliver.refuseTransit a k, tie_refuse-transit s k (k_there h k taken) x x_in.0 x256 is-task f v j is_finish is-from is-to f0 f33 v8 j8 y, refuses_transit k (full h k taken 3 e) lives is_there calm (rw is-to y)))
-      (λ y. (Deliver.deliver_transit a k, tie_deliver-transit s k (k_there h k taken) x x_in.0 x256 is-task f v j is_finish is-from is-to f0 f33 v8 j8 y, delivers_transit k (full h k taken 3 e) lives is_there calm (rw is-to y)))))
+      (λ y. (Deliver.refuse_transit a k, tie_refuse_transit s k (k_there h k taken) x x_in.0 x256 is-task f v j is_finish is-from is-to f0 f33 v8 j8 y, refuses_transit k (full h k taken 3 e) lives is_there calm (rw is-to y)))
+      (λ y. (Deliver.deliver_transit a k, tie_deliver_transit s k (k_there h k taken) x x_in.0 x256 is-task f v j is_finish is-from is-to f0 f33 v8 j8 y, delivers_transit k (full h k taken 3 e) lives is_there calm (rw is-to y)))))
 
-  pub report-moves : (a.slot k).tag ≡ 7 → (a.slot k).from ≡ v → message_at t k ≡ report f v (counts_at t k) → Moved (Settle a) (deliver_step t k)
-  unfolding deliver_step deliver_message discarded delivered reportRule waits_for_repair fits lowers
-  report-moves e is-from m =
+  pub report_moves : (a.slot k).tag ≡ 7 → (a.slot k).from ≡ v → message_at t k ≡ report f v (counts_at t k) → Moved (Settle a) (deliver_step t k)
+  unfolding deliver_step deliver_message discarded delivered report_rule waits_for_repair fits lowers
+  report_moves e is-from m =
       let s = h.seen in
       let c = counts_at t k in
       let v8 = place_in h k taken v (ranges h k taken (report f v (counts_at t k)) m).1 in
@@ -153,22 +153,22 @@ module _ {t : List ℕ} {a : State} (h : Held t a) (k : ℕ) (taken : StepTaken 
           omega (arith, leb-true (byte c i) (byte b (8 + 8 * i + v)) (below_all (λ i. leb (byte c i) (byte b (8 + 8 * i + v))) 8 l i i8), square_in b 8 i v i8 v8))
           (λ y. let z : byte c i ≡ 0 = get_or-eq_default c 0 (omega (arith, ltb-false i 8 y, counts-length s k (k_there h k taken))) in omega arith)
 
-  pub ghost_ended-moves : (g : ℕ) → (a.slot k).tag ≡ 9 → (a.slot k).number ≡ g → message_at t k ≡ ghost_ended f g → Moved (Settle a) (deliver_step t k)
-  unfolding deliver_step deliver_message discarded delivered ghostEndedRule waits_for_repair
-  ghost_ended-moves g e is_number m =
+  pub ghost_ended_moves : (g : ℕ) → (a.slot k).tag ≡ 9 → (a.slot k).number ≡ g → message_at t k ≡ ghost_ended f g → Moved (Settle a) (deliver_step t k)
+  unfolding deliver_step deliver_message discarded delivered ghost_ended_rule waits_for_repair
+  ghost_ended_moves g e is_number m =
       let s = h.seen in
       let g_made = (ranges h k taken (ghost_ended f g) m).1 in
       let g_in = finish_in h k taken g g_made in
-      let g33 = (finish-fits h g g_in.0 g_in.1).number in
+      let g33 = (finish_fits_lem h g g_in.0 g_in.1).number in
       bool_cases (discarded t (ghost_ended f g))
       (λ d. thrown (ghost_lost e (absent d)) (ghost_ended f g) m d)
       (λ d. let go = goes h k taken (ghost_ended f g) m d in
       let end = closed (tie_ghost_ended s k (k_there h k taken) f is_finish f0 f33 g is_number g_in.0 g33) (bytes_emptied (bytes_ghost_ended h.bytes f g) k) (adopted_mark d) emptied in
       rw (m, d) (end.0, end.1, delivers_ghost_ended k (full h k taken 9 e) (rw is_finish (there d)) (repaired d go.calm) end.2))
 
-  pub dropped-moves : (a.slot k).tag ≡ 11 → (a.slot k).from ≡ v → (a.slot k).to ≡ j → (a.slot k).number ≡ n → message_at t k ≡ dropped f x v j n → Moved (Settle a) (deliver_step t k)
-  unfolding deliver_step deliver_message discarded delivered droppedRule fits
-  dropped-moves e is-from is-to is_number m =
+  pub dropped_moves : (a.slot k).tag ≡ 11 → (a.slot k).from ≡ v → (a.slot k).to ≡ j → (a.slot k).number ≡ n → message_at t k ≡ dropped f x v j n → Moved (Settle a) (deliver_step t k)
+  unfolding deliver_step deliver_message discarded delivered dropped_rule fits
+  dropped_moves e is-from is-to is_number m =
       let s = h.seen in
       let r = ranges h k taken (dropped f x v j n) m in
       let v8 = place_in h k taken v r.1.0 in

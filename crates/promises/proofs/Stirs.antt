@@ -30,7 +30,7 @@ use Rattle.promises.proofs.Seen.{Seen}
 use Rattle.promises.proofs.Rows.{read_dead}
 use Rattle.promises.proofs.Slots.{counts_at, read_message, read_empty, first_full}
 use Rattle.promises.proofs.WholeBooks.{read_book}
-use Rattle.promises.proofs.BookTests.{book-closes}
+use Rattle.promises.proofs.BookTests.{book_closes}
 use Rattle.promises.proofs.TieClosing.{tie_cancelled}
 use Rattle.promises.proofs.Good.{Good, as_seen, places-below}
 use Rattle.promises.proofs.ActsMove.{good_taken}
@@ -94,7 +94,7 @@ module _ {t : List ℕ} (good : Good t) where
         let f = m.finish in
         let v8 : v < 8 = omega (arith, (good.inv.dead-places v died).1, places-below good) in
         bool_cases (closes (book_of (cancelled t m.finish v) m.finish))
-        (λ c. absurd (stays_open (view t) good.inv k (in_flight good k k128) f refl present v died settled waits (book-closes (read_book (tie_cancelled s f v f0 f33 v8) f f0 f33) c)))
+        (λ c. absurd (stays_open (view t) good.inv k (in_flight good k k128) f refl present v died settled waits (book_closes (read_book (tie_cancelled s f v f0 f33 v8) f f0 f33) c)))
         (λ c. rw c refl)
 
     pub message_stirs : is_empty (from_slot t k) k ≡ false → Stirring t
@@ -103,8 +103,8 @@ module _ {t : List ℕ} (good : Good t) where
         (λ h.
         let w = holds h in
         let n = names good k k128 (omega (arith, eqb-false m.tag 0 (sym (read_empty s k k128) ∙ full))) in
-        let f0 = n.finish-low in
-        let f33 = n.finish-high in
+        let f0 = n.finish_low in
+        let f33 = n.finish_high in
         repair_stirs good m.finish f0 f33 w.there w.repair (λ v. sends_none v w.waits f0 f33 (is_present good m.finish f0 f33 w.there)))
         (λ h. (deliver k, refl, good_taken t good (deliver k) refl (le-ltb 127 k (omega arith)) refl full h refl))
 

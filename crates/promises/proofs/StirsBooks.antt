@@ -22,7 +22,7 @@ use Rattle.promises.specs.View.{view}
 use Rattle.promises.specs.Settling.{is_settling, Stirring}
 use Rattle.promises.proofs.Tests.{not_true}
 use Rattle.promises.proofs.Seen.{Seen}
-use Rattle.promises.proofs.Rows.{read_places, read_finishes-made, read_dead}
+use Rattle.promises.proofs.Rows.{read_places, read_finishes_made, read_dead}
 use Rattle.promises.proofs.BookCells.{read_due, book_there}
 use Rattle.promises.proofs.WholeBooks.{at as book-byte}
 use Rattle.promises.proofs.Good.{Good, as_seen}
@@ -44,7 +44,7 @@ module _ {t : List ℕ} (good : Good t) where
 
     made : finish_made t f ≡ true
     unfolding finish_made
-    made = each_every _ (le-leb 1 f f0, (le-leb f (finishes_made t) (omega (arith, (good.inv.book-made f is_present).1, read_finishes-made s)), tt))
+    made = each_every _ (le-leb 1 f f0, (le-leb f (finishes_made t) (omega (arith, (good.inv.book_made f is_present).1, read_finishes_made s)), tt))
 
     byte_is : (j : ℕ) → j < 144 → byte (book_of t f) j ≡ byte t (place (book_row f) j)
     byte_is j l = book-byte t good.whole f f0 f33 j (place (book_row f) j) l (omega arith)

@@ -2,10 +2,10 @@
 use mathlib.Core.Path.{◌≡◌}
 use Prim.Native.Nat.{ℕ, suc, ◌≤◌}
 use native.Mathlib.Omega.{arith}
-use Rattle.model.specs.Base.Cases.{eq-cases}
+use Rattle.model.specs.Base.Cases.{eq_cases}
 
 from : {P : Type 0} (k n : ℕ) → k ≤ n → (n ≡ k → P) → (suc k ≤ n → P) → P
-from k n h y more = eq-cases n k y (λ ne. more (omega arith))
+from k n h y more = eq_cases n k y (λ ne. more (omega arith))
 
 pub by_tag : {P : Type 0} (n : ℕ) → n ≤ 11 → (n ≡ 0 → P) → (n ≡ 1 → P) → (n ≡ 2 → P) → (n ≡ 3 → P) → (n ≡ 4 → P) → (n ≡ 5 → P) → (n ≡ 6 → P)
     → (n ≡ 7 → P) → (n ≡ 8 → P) → (n ≡ 9 → P) → (n ≡ 10 → P) → (n ≡ 11 → P) → P

@@ -12,7 +12,7 @@ use Rattle.rules.specs.Fields.{task_at, task_finish, is_published, opener, is_ma
 use Rattle.rules.specs.Spawn.{with_sent, first_spawn, later_spawn, is_first, spawn_step}
 use Rattle.rules.specs.Open.{opened, open_step}
 use Rattle.rules.specs.End.{end_unpublished, end_published, end_main, less_each, received_row, reported_row, end_last, end_earlier, end_other, end_step}
-use Rattle.promises.proofs.TieEnd.{less-at}
+use Rattle.promises.proofs.TieEnd.{less_at}
 use Rattle.promises.proofs.Bytes.{Bytes, bytes_set, bytes_write, bytes_part, bytes_none, bytes_more, bytes_zeros}
 use Rattle.promises.proofs.MessageBytes.{bytes_send, bytes_cond, bytes_runs}
 
@@ -56,5 +56,5 @@ module _ {t : List ℕ} (h : Bytes t) (k : ℕ) (k256 : k < 256) where
       (f_small, h.small (place (finish_row f) 0), bytes_set (bytes_zeros 8) (home t f) 1 (omega arith))))
       (bytes_cond (eqb (local_live t f p) 1)
       (bytes_send (bytes_write (bytes_set ended (local_live_place f p) 0 (omega arith)) (reported_place f p 0) R) (lowest_empty t) (report f p (less_each (received_row t f p) (reported_row t f p)))
-      (f_small, p_small, record { small = λ i. rw (less-at (received_row t f p) (reported_row t f p) i) (omega (arith, R.small i)) }))
+      (f_small, p_small, record { small = λ i. rw (less_at (received_row t f p) (reported_row t f p) i) (omega (arith, R.small i)) }))
       (bytes_set ended (local_live_place f p) (local_live t f p - 1) (omega (arith, h.small (local_live_place f p)))))

@@ -11,8 +11,8 @@ use Rattle.tables.specs.Walks.{every, some_of, some_below, every_below}
 use Rattle.rules.specs.Fields.{home}
 use Rattle.rules.specs.Messages.{tagged}
 use Rattle.rules.specs.Messages.{goes_to as place_of}
-use Rattle.rules.specs.Kill.{loses_task as taskTest, loses_finish as finishTest}
-use Rattle.model.specs.Base.Cases.{bool_cases, eq-cases, both}
+use Rattle.rules.specs.Kill.{loses_task as task_test, loses_finish as finish_test}
+use Rattle.model.specs.Base.Cases.{bool_cases, eq_cases, both}
 use Rattle.model.specs.Messages.{goes_to}
 use Rattle.model.specs.Effects.Kill.{loses_task, loses_finish}
 
@@ -68,7 +68,7 @@ pub below_all : (p : ℕ → Bool) (n : ℕ) → every_below p n ≡ true → (i
 unfolding every_below
 below_all p zero e i h = absurd (omega arith)
 below_all p (suc n) e i h = bool_cases (p n)
-    (λ y. eq-cases i n (λ q. rw q y) (λ q. below_all p n (rw y at e) i (omega arith)))
+    (λ y. eq_cases i n (λ q. rw q y) (λ q. below_all p n (rw y at e) i (omega arith)))
     (λ y. both e (rw y refl))
 
 pub below_none : (p : ℕ → Bool) (n : ℕ) → some_below p n ≡ false → (i : ℕ) → i < n → p i ≡ false
@@ -76,16 +76,16 @@ unfolding some_below
 below_none p zero e i h = absurd (omega arith)
 below_none p (suc n) e i h = bool_cases (p n)
     (λ y. both (rw y refl) e)
-    (λ y. eq-cases i n (λ q. rw q y) (λ q. below_none p n (rw y at e) i (omega arith)))
+    (λ y. eq_cases i n (λ q. rw q y) (λ q. below_none p n (rw y at e) i (omega arith)))
 
 -- a mark that is not 0
 pub mark_set : (x : ℕ) → x ≤ 1 → (x ≡ 0 → ⊥) → x ≡ 1
 mark_set x l n = omega arith
 
 -- ---- kill
-pub loses-task : (p from at status : ℕ) → taskTest p from at status ≡ loses_task p from at status
-unfolding taskTest loses_task
-loses-task p from at status =
+pub loses_task_lem : (p from at status : ℕ) → task_test p from at status ≡ loses_task p from at status
+unfolding task_test loses_task
+loses_task_lem p from at status =
     rw (
       some_two (eqb status 5) (eqb status 6),
       some_two (eqb status 1) (eqb status 2),
@@ -96,9 +96,9 @@ loses-task p from at status =
       and_comm (eqb from p) (eqb status 1 || eqb status 2),
     ) refl
 
-pub loses-finish : (p home status : ℕ) → finishTest p home status ≡ loses_finish p home status
-unfolding finishTest loses_finish
-loses-finish p home status = every_two (eqb home p) (not (eqb status 4))
+pub loses_finish_lem : (p home status : ℕ) → finish_test p home status ≡ loses_finish p home status
+unfolding finish_test loses_finish
+loses_finish_lem p home status = every_two (eqb home p) (not (eqb status 4))
 
 -- the store, 8, is no place
 pub goes_to_lem : (t : List ℕ) (homes : ℕ → ℕ) (p tag f k v j n : ℕ) (list : List ℕ) (counts : ℕ → ℕ) → p < 8 → ((tag ≡ 2) ⊎ (tag ≡ 8) → home t f ≡ homes f)

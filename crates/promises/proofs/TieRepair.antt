@@ -11,10 +11,10 @@ use Rattle.model.specs.Effects.Repair.{ask}
 use Rattle.model.specs.Inv.Rows.{StatusMade, BlankFinishes}
 use Rattle.model.specs.Inv.Cells.{CellPlaces}
 use Rattle.promises.proofs.Seen.{Seen}
-use Rattle.promises.proofs.Rows.{read_tasks-made, read_finishes-made, read_home, seen_dead}
+use Rattle.promises.proofs.Rows.{read_tasks_made, read_finishes_made, read_home, seen_dead}
 use Rattle.promises.proofs.Slots.{seen_send}
 use Rattle.promises.proofs.BookCells.{read_sent, seen_asked}
-use Rattle.promises.proofs.KillWalks.{seen_kill-tasks, seen_kill-finishes, seen_kill-books, seen_kill-locals, seen_kill-slots}
+use Rattle.promises.proofs.KillWalks.{seen_kill_tasks, seen_kill_finishes, seen_kill_books, seen_kill_locals, seen_kill_slots}
 
 -- what a kill needs of the state: the counts of rows; rows not made are 0; cells stand at places; messages name a finish
 pub record Killable (a : State) : Type 0 where
@@ -29,8 +29,8 @@ pub record Killable (a : State) : Type 0 where
 pub tie_kill : {t : List ℕ} {a : State} → Seen t a → Killable a → (p : ℕ) → 0 < p → p < 8 → Seen (kill_step t p) (kill a p)
 unfolding kill_step
 tie_kill {t} s ok p p0 p8 =
-    rw (read_tasks-made s, read_finishes-made s)
-    (seen_kill-tasks (seen_kill-finishes (seen_kill-books (seen_kill-locals (seen_kill-slots (seen_dead s p p8) p p8 t (read_home s) ok.names) p p8) p p8 ok.places ok.cells)
+    rw (read_tasks_made s, read_finishes_made s)
+    (seen_kill_tasks (seen_kill_finishes (seen_kill_books (seen_kill_locals (seen_kill_slots (seen_dead s p p8) p p8 t (read_home s) ok.names) p p8) p p8 ok.places ok.cells)
     p p0 ok.finishes ok.no_finish) p ok.tasks ok.no_task)
 
 pub tie_ask : {t : List ℕ} {a : State} → Seen t a → (f v j : ℕ) → 0 < f → f < 33 → v < 8 → j < 8 → lowest_empty t < 128 → Seen (ask_step t f v j) (ask a f v j (lowest_empty t))

@@ -14,7 +14,7 @@ use Rattle.tables.specs.Bytes.{byte, part}
 use Rattle.tables.specs.Walks.{change_parts}
 use Rattle.tables.proofs.Writes.{byte-part, length_part}
 use Rattle.tables.proofs.Changes.{Keeps, byte_change_in, byte_change_out}
-use Rattle.model.specs.Base.Cases.{eq-cases, bool_cases, and_left, and_right}
+use Rattle.model.specs.Base.Cases.{eq_cases, bool_cases, and_left, and_right}
 use Rattle.promises.specs.View.{Table, within, cell}
 use Rattle.promises.proofs.Cells.{within_split, within_true, cell_in, cell_out, cell_ext}
 
@@ -50,7 +50,7 @@ module _ (T : Table) (w i n k : ℕ) (t : List ℕ) (fits : k + w * n ≤ length
   walk_set c h hc = cell_parts (λ m x. set m c (h m x)) (λ m x l. length-set m c (h m x) ∙ l) ∙ fun_ext (λ x. fun_ext (λ j. bool_cases (within T x j && ltb (Y x) n)
       (λ e. let s = within_split T x j (and_left (within T x j) (ltb (Y x) n) e) in
       let l : length (its x) ≡ w = length_part t (k + w * Y x) w (omega (arith, mul-suc w (Y x), mul-le-mul_left {m = suc (Y x)} {n = n} w (ltb-true (Y x) n (and_right (within T x j) (ltb (Y x) n) e)))) in
-      rw e (eq-cases (O x + j) c
+      rw e (eq_cases (O x + j) c
       (λ d. rw (d, eq-eqb c c refl) (get_or-set_same (its x) c (h (its x) (i + Y x)) 0 (omega arith)))
       (λ d. rw (ne_eqb (O x + j) c d) (get_or-set_other (its x) c (O x + j) (h (its x) (i + Y x)) 0 d ∙ its_byte x j s.0 s.1 s.2))))
       (λ e. rw e (bool_cases (eqb (O x + j) c) (λ d. rw d refl) (λ d. rw d refl)))))

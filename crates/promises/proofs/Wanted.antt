@@ -15,15 +15,15 @@ use Rattle.rules.specs.Spawn.{spawn_wanted}
 use Rattle.rules.specs.End.{received_row, reported_row, each_at_most, end_main_wanted, end_other_wanted, end_wanted}
 use Rattle.rules.specs.Refusals.{not_there, not_ready, unwanted}
 use Rattle.rules.proofs.Taken.{not-not, slot_there}
-use Rattle.model.specs.Base.Cases.{eq-cases}
+use Rattle.model.specs.Base.Cases.{eq_cases}
 use Rattle.model.specs.Guards.{Runs}
 use Rattle.model.specs.Inv.{Inv}
 use Rattle.model.specs.Promises.Wanted
 use Rattle.promises.specs.View.{view}
 use Rattle.promises.proofs.Seen.{Seen}
-use Rattle.promises.proofs.Rows.{read_task-at, read_task-finish, read_task-sent, read_opener, read_finish-status}
+use Rattle.promises.proofs.Rows.{read_task_at, read_task_finish, read_task_sent, read_opener, read_finish_status}
 use Rattle.promises.proofs.LocalCells.{read_local_live, read_received_row, read_reported_row}
-use Rattle.promises.proofs.Held.{Held, TaskFits, FinishFits, task-fits, finish-fits}
+use Rattle.promises.proofs.Held.{Held, TaskFits, FinishFits, task-fits, finish_fits_lem}
 use Rattle.promises.proofs.Moved.{task-runs}
 use Rattle.promises.proofs.Good.{Good}
 use Rattle.promises.proofs.SoundTables.{good_held}
@@ -59,10 +59,10 @@ module _ (t : List ℕ) (good : Good t) where
     ranges = task-fits h k runs.low runs.high
 
     f0 : 0 < f
-    f0 = ranges.finish-low
+    f0 = ranges.finish_low
 
     own : FinishFits (view t) f
-    own = finish-fits h f f0 ranges.finish-high
+    own = finish_fits_lem h f f0 ranges.finish_high
 
     f33 : f < 33
     f33 = own.number
@@ -72,35 +72,35 @@ module _ (t : List ℕ) (good : Good t) where
 
     main_is : is_main t k ≡ eqb ((view t).tasks.sent k) 0
     unfolding is_main
-    main_is = ap (λ (n : ℕ). eqb n 0) (read_task-sent s k runs.low ranges.number)
+    main_is = ap (λ (n : ℕ). eqb n 0) (read_task_sent s k runs.low ranges.number)
 
-    main-active : (view t).tasks.sent k ≡ 0 → eqb (finish_status t f) 1 ≡ true
-    main-active e = eq-eqb (finish_status t f) 1 (read_finish-status s f f0 f33 ∙ Wanted.main-wanted (view t) inv k runs e)
+    main_active : (view t).tasks.sent k ≡ 0 → eqb (finish_status t f) 1 ≡ true
+    main_active e = eq-eqb (finish_status t f) 1 (read_finish_status s f f0 f33 ∙ Wanted.main_wanted (view t) inv k runs e)
 
     spawn_finds : spawn_wanted t k ≡ true
     unfolding spawn_wanted
-    spawn_finds = rw (main_is, read_task-finish s k runs.low ranges.number) (eq-cases ((view t).tasks.sent k) 0
-        (λ e. rw (eq-eqb ((view t).tasks.sent k) 0 e) (main-active e))
+    spawn_finds = rw (main_is, read_task_finish s k runs.low ranges.number) (eq_cases ((view t).tasks.sent k) 0
+        (λ e. rw (eq-eqb ((view t).tasks.sent k) 0 e) (main_active e))
         (λ n. rw (ne_eqb ((view t).tasks.sent k) 0 n) refl))
 
-    end-main_finds : (view t).tasks.sent k ≡ 0 → end_main_wanted t f ≡ true
+    end_main_finds : (view t).tasks.sent k ≡ 0 → end_main_wanted t f ≡ true
     unfolding end_main_wanted
-    end-main_finds e =
-        let o = blocked-runs s ((view t).finishes.opener f) own.opener (Wanted.end-wanted (view t) inv k runs e) in
+    end_main_finds e =
+        let o = blocked-runs s ((view t).finishes.opener f) own.opener (Wanted.end_wanted_lem (view t) inv k runs e) in
         each_every (eqb (finish_status t f) 1 ∷ cond (eqb (is_published t f) 0) (may_run t (opener t f)) true ∷ [])
-        (main-active e, (if_so (eqb (is_published t f) 0) (may_run t (opener t f)) (rw (read_opener s f f0 f33) o), tt))
+        (main_active e, (if_so (eqb (is_published t f) 0) (may_run t (opener t f)) (rw (read_opener s f f0 f33) o), tt))
 
     end_other_finds : ((view t).tasks.sent k ≡ 0 → ⊥) → end_other_wanted t f p ≡ true
     unfolding end_other_wanted each_at_most
     end_other_finds n =
-        let l = Wanted.end-counts (view t) inv k runs n in
+        let l = Wanted.end_counts (view t) inv k runs n in
         let each = each_at_most (reported_row t f p) (received_row t f p) in
         each_every (leb 1 (local_live t f p) ∷ cond (eqb (local_live t f p) 1) each true ∷ []) (
           le-leb 1 (local_live t f p) (omega (arith, read_local_live s f p f0 f33 p8)),
           (
             if_so (eqb (local_live t f p) 1) each (every-below (λ i. leb (byte (reported_row t f p) i) (byte (received_row t f p) i)) 8 (λ i h.
                 le-leb (byte (reported_row t f p) i) (byte (received_row t f p) i)
-                (omega (arith, read_reported_row s f p f0 f33 p8 i, read_received_row s f p f0 f33 p8 i, inv.reported-most f p i)))),
+                (omega (arith, read_reported_row s f p f0 f33 p8 i, read_received_row s f p f0 f33 p8 i, inv.reported_most f p i)))),
             tt,
           ),
         )
@@ -110,8 +110,8 @@ module _ (t : List ℕ) (good : Good t) where
     end_finds =
         let k0 = runs.low in
         let k256 = ranges.number in
-        rw (main_is, read_task-finish s k k0 k256, read_task-at s k k0 k256) (eq-cases ((view t).tasks.sent k) 0
-        (λ e. rw (eq-eqb ((view t).tasks.sent k) 0 e) (end-main_finds e))
+        rw (main_is, read_task_finish s k k0 k256, read_task_at s k k0 k256) (eq_cases ((view t).tasks.sent k) 0
+        (λ e. rw (eq-eqb ((view t).tasks.sent k) 0 e) (end_main_finds e))
         (λ n. rw (ne_eqb ((view t).tasks.sent k) 0 n) (end_other_finds n)))
 
   -- where 2 and 4 do not apply, neither does 9

@@ -15,15 +15,15 @@ use Rattle.tables.specs.Layout.{Whole, place, book_row}
 use Rattle.tables.proofs.Writes.{byte-part, length_part}
 use Rattle.rules.specs.Fields.{book_place}
 use Rattle.rules.specs.Books.{book_of, cleared_column, lowered_column}
-use Rattle.rules.specs.Books.{with_book as writeBook}
-use Rattle.rules.specs.Closing.{without_book as clearBook}
-use Rattle.model.specs.Base.Cases.{eq-cases, bool_cases}
-use Rattle.model.specs.Base.Updates.{upd, upd_same, upd_other, on, on-false, is₂, is₂-false}
+use Rattle.rules.specs.Books.{with_book as write_book}
+use Rattle.rules.specs.Closing.{without_book as clear_book}
+use Rattle.model.specs.Base.Cases.{eq_cases, bool_cases}
+use Rattle.model.specs.Base.Updates.{upd, upd_same, upd_other, on, on_false, is₂, is₂_false}
 use Rattle.model.specs.State.{State, with_books, with_live}
 use Rattle.model.specs.Effects.Closing.{without_book}
 use Rattle.model.specs.Effects.Repair.{cancel}
 use Rattle.promises.specs.View.{cell, view, view_of, rows, flat, ghost_in, book_table, live_table, sent_table, asked_table}
-use Rattle.promises.proofs.Cells.{write_outside, cell_in, cell-wide, cell-over}
+use Rattle.promises.proofs.Cells.{write_outside, cell_in, cell_wide, cell-over}
 use Rattle.promises.proofs.Areas.{books_become}
 use Rattle.promises.proofs.Flat.{flat_in, flat_off, flat_square}
 use Rattle.promises.proofs.Walks.{zeros_at}
@@ -63,14 +63,14 @@ module _ (t : List ℕ) (whole : Whole t) (f : ℕ) (f0 : 0 < f) (f33 : f < 33) 
     live = square_ext (book_of t f) 8 (flat (cell t live_table) f)
         (λ i j p q. at (8 + 8 * i + j) (live_table.at (8 * (f - 1) + i) j) (omega arith) (omega arith)
         ∙ sym (flat_in (cell t live_table) f i j f0 p ∙ cell_in live_table t (8 * (f - 1) + i) j q (omega arith) (omega arith)))
-        (flat_off (cell t live_table) (λ y j h. cell-wide live_table t y j h) f);
+        (flat_off (cell t live_table) (λ y j h. cell_wide live_table t y j h) f);
     sent = square_ext (book_of t f) 72 (flat (cell t sent_table) f)
         (λ i j p q. at (72 + 8 * i + j) (sent_table.at (8 * (f - 1) + i) j) (omega arith) (omega arith)
         ∙ sym (flat_in (cell t sent_table) f i j f0 p ∙ cell_in sent_table t (8 * (f - 1) + i) j q (omega arith) (omega arith)))
-        (flat_off (cell t sent_table) (λ y j h. cell-wide sent_table t y j h) f);
+        (flat_off (cell t sent_table) (λ y j h. cell_wide sent_table t y j h) f);
     asked = fun_ext (λ i. ap marked (bool_cases (ltb i 8)
         (λ e. let h = ltb-true i 8 e in rw e (at (136 + i) (asked_table.at f i) (omega arith) (omega arith) ∙ sym (cell_in asked_table t f i h f0 f33)))
-        (λ e. rw e (sym (cell-wide asked_table t f i (ltb-false i 8 e))))));
+        (λ e. rw e (sym (cell_wide asked_table t f i (ltb-false i 8 e))))));
   }
 
 pub read_book : {t : List ℕ} {a : State} → Seen t a → (f : ℕ) → 0 < f → f < 33 → IsBook (book_of t f) a f
@@ -105,16 +105,16 @@ module _ (t : List ℕ) (whole : Whole t) (f : ℕ) (f0 : 0 < f) (f33 : f < 33) 
   new_book_lem = cell-over book_table t (book_place f) 144 b (λ x. eqb x f) (λ x. 0) size (omega arith) row_of
       (λ x j h e. let q = eqb-true x f e in omega arith) (λ x j h i k e c d. let q = eqb-false x f e in omega arith)
 
-  new_asked : cell new asked_table ≡ (λ x j. cond (eqb x f) (asked_byte b j) (cell t asked_table x j))
-  new_asked = cell-over asked_table t (book_place f) 144 b (λ x. eqb x f) (λ x. 136) size (omega arith) row_of
+  new-asked : cell new asked_table ≡ (λ x j. cond (eqb x f) (asked_byte b j) (cell t asked_table x j))
+  new-asked = cell-over asked_table t (book_place f) 144 b (λ x. eqb x f) (λ x. 136) size (omega arith) row_of
       (λ x j h e. let q = eqb-true x f e in omega arith) (λ x j h i k e c d. let q = eqb-false x f e in omega arith)
 
   cut : (o x j : ℕ) → cond (ltb j 8) (byte b (o + 8 * (x % 8) + j)) 0 ≡ square b o (x % 8) j
   unfolding square
   cut o x j = rw (lt-ltb (x % 8) 8 (omega arith)) refl
 
-  new_live : cell new live_table ≡ (λ x j. cond (eqb (x / 8) (f - 1)) (square b 8 (x % 8) j) (cell t live_table x j))
-  new_live = cell-over live_table t (book_place f) 144 b (λ x. eqb (x / 8) (f - 1)) (λ x. 8 + 8 * (x % 8)) size (omega arith) cells_of
+  new-live : cell new live_table ≡ (λ x j. cond (eqb (x / 8) (f - 1)) (square b 8 (x % 8) j) (cell t live_table x j))
+  new-live = cell-over live_table t (book_place f) 144 b (λ x. eqb (x / 8) (f - 1)) (λ x. 8 + 8 * (x % 8)) size (omega arith) cells_of
       (λ x j h e. let q = eqb-true (x / 8) (f - 1) e in omega arith) (λ x j h i k e c d. let q = eqb-false (x / 8) (f - 1) e in omega arith)
       ∙ (λ z x j. cond (eqb (x / 8) (f - 1)) (cut 8 x j z) (cell t live_table x j))
 
@@ -126,9 +126,9 @@ module _ (t : List ℕ) (whole : Whole t) (f : ℕ) (f0 : 0 < f) (f33 : f < 33) 
   no_row : (o i j : ℕ) → 8 ≤ i → square b o i j ≡ 0
   no_row o i j h = square_out b o i j (rw (le-ltb i 8 h) refl)
 
-  new_ghosts_lem : (x : ℕ) → ghost_in (λ j. cond (eqb x f) (cond (ltb j 8) (byte b (0 + j)) 0) (cell t book_table x j)) ≡ upd (λ y. ghost_in (cell t book_table y)) f (ghost_in (byte b)) x
+  new-ghosts : (x : ℕ) → ghost_in (λ j. cond (eqb x f) (cond (ltb j 8) (byte b (0 + j)) 0) (cell t book_table x j)) ≡ upd (λ y. ghost_in (cell t book_table y)) f (ghost_in (byte b)) x
   unfolding upd
-  new_ghosts_lem x = bool_cases (eqb x f)
+  new-ghosts x = bool_cases (eqb x f)
       (λ e. rw e (ghost_same (λ j. cond (ltb j 8) (byte b (0 + j)) 0) (byte b) (λ j p q. rw (lt-ltb j 8 q, zero-add j) refl)))
       (λ e. rw e refl)
 
@@ -139,25 +139,25 @@ module _ (t : List ℕ) (whole : Whole t) (f : ℕ) (f0 : 0 < f) (f33 : f < 33) 
   is_new : view (write t (book_place f) b) ≡ with_bytes f b (view t)
   unfolding view upd
   is_new =
-      ap view_of (books_become (write_outside t (book_place f) b 144 2304 6912 size (omega arith) (omega arith)) new_book_lem new_live new_sent new_asked)
+      ap view_of (books_become (write_outside t (book_place f) b 144 2304 6912 size (omega arith) (omega arith)) new_book_lem new-live new_sent new-asked)
       ∙ (λ z. with_books (record {
         present = λ x. cond (eqb x f) (byte b 0) (cell t book_table x 0);
         parent = λ x. cond (eqb x f) (byte b 1) (cell t book_table x 1);
         due = λ x. cond (eqb x f) (byte b 2) (cell t book_table x 2);
         adopted = λ x. cond (eqb x f) (byte b 3) (cell t book_table x 3);
-        ghosts = λ x. new_ghosts_lem x z;
+        ghosts = λ x. new-ghosts x z;
         live = flat_square (cell t live_table) f (square b 8) f0 (no_row 8) z;
         sent = flat_square (cell t sent_table) f (square b 72) f0 (no_row 72) z;
         asked = λ x. new_marks x z;
       }) (view_of (rows t)))
 
-pub seen_book : {t : List ℕ} {a : State} → Seen t a → (f : ℕ) → 0 < f → f < 33 → (b : List ℕ) → length b ≡ 144 → Seen (writeBook t f b) (with_bytes f b a)
-unfolding writeBook
+pub seen_book : {t : List ℕ} {a : State} → Seen t a → (f : ℕ) → 0 < f → f < 33 → (b : List ℕ) → length b ≡ 144 → Seen (write_book t f b) (with_bytes f b a)
+unfolding write_book
 seen_book {t} s f f0 f33 b size = by_write (with_bytes f b) s (book_place f) b (is_new t s.whole f f0 f33 b size)
 
 -- ---- the 18 rows become 0
-pub seen_without_book : {t : List ℕ} {a : State} → Seen t a → (f : ℕ) → 0 < f → f < 33 → Seen (clearBook t f) (without_book f a)
-unfolding clearBook
+pub seen_without_book : {t : List ℕ} {a : State} → Seen t a → (f : ℕ) → 0 < f → f < 33 → Seen (clear_book t f) (without_book f a)
+unfolding clear_book
 seen_without_book {t} {a} s f f0 f33 = same (seen_book s f f0 f33 (replicate 144 0) (length-replicate {A = ℕ} 144 0)) (λ z.
     let B = a.books in
     with_books (record {
@@ -182,7 +182,7 @@ seen_without_book {t} {a} s f f0 f33 = same (seen_book s f f0 f33 (replicate 144
 
 -- ---- only the live counts change
 pub upd_keep : {A : Type 0} (g : ℕ → A) (k : ℕ) (v : A) → v ≡ g k → upd g k v ≡ g
-upd_keep g k v e = fun_ext (λ x. eq-cases x k (λ q. rw (q, upd_same g k v) e) (λ q. upd_other g k v x q))
+upd_keep g k v e = fun_ext (λ x. eq_cases x k (λ q. rw (q, upd_same g k v) e) (λ q. upd_other g k v x q))
 
 bytes_kept : {a : State} {f : ℕ} {b : List ℕ} → IsBook b a f → (c : List ℕ) → ((q : ℕ) → (q < 8) ⊎ (72 ≤ q) → byte c q ≡ byte b q) → with_bytes f c a ≡ with_live (upd a.books.live f (square c 8)) a
 bytes_kept {a} {f} {b} is c h = λ z.
@@ -217,24 +217,24 @@ module _ {t : List ℕ} {a : State} (s : Seen t a) (f v : ℕ) (f0 : 0 < f) (f33
   is = read_book s f f0 f33
 
   -- column v becomes 0
-  pub seen_cleared : Seen (writeBook t f (cleared_column (book_of t f) v)) (cancel a f v)
+  pub seen_cleared : Seen (write_book t f (cleared_column (book_of t f) v)) (cancel a f v)
   unfolding b
   seen_cleared = same (seen_book s f f0 f33 (cleared_column b v) (cleared_length b v is.size v8))
       (bytes_kept is (cleared_column b v) (cleared_out b v is.size v8) ∙ (λ z. with_live (live z) a))
     where
       live : upd a.books.live f (square (cleared_column b v) 8) ≡ (λ x i j. cond (is₂ f v x j) 0 (a.books.live x i j))
-      live = rw (cleared_square b v is.size v8, is.live) (fun_ext (λ x. eq-cases x f
+      live = rw (cleared_square b v is.size v8, is.live) (fun_ext (λ x. eq_cases x f
           (λ e. rw (e, upd_same a.books.live f (λ i j. cond (eqb v j) 0 (a.books.live f i j))) (fun_ext (λ i. fun_ext (λ j. rw (is₂_own f v j) refl))))
-          (λ e. rw (upd_other a.books.live f (λ i j. cond (eqb v j) 0 (a.books.live f i j)) x e) (fun_ext (λ i. fun_ext (λ j. rw (is₂-false f v x j (λ p q. e (sym p))) refl))))))
+          (λ e. rw (upd_other a.books.live f (λ i j. cond (eqb v j) 0 (a.books.live f i j)) x e) (fun_ext (λ i. fun_ext (λ j. rw (is₂_false f v x j (λ p q. e (sym p))) refl))))))
 
   -- column v is lowered by the counts
-  pub seen_lowered : (counts : List ℕ) → Seen (writeBook t f (lowered_column (book_of t f) v counts)) (with_live (λ x i j. a.books.live x i j - on (is₂ f v x j) (byte counts i)) a)
+  pub seen_lowered : (counts : List ℕ) → Seen (write_book t f (lowered_column (book_of t f) v counts)) (with_live (λ x i j. a.books.live x i j - on (is₂ f v x j) (byte counts i)) a)
   unfolding b
   seen_lowered counts = same (seen_book s f f0 f33 (lowered_column b v counts) (lowered_length b v is.size v8 counts))
       (bytes_kept is (lowered_column b v counts) (lowered_out b v is.size v8 counts) ∙ (λ z. with_live (live z) a))
     where
       live : upd a.books.live f (square (lowered_column b v counts) 8) ≡ (λ x i j. a.books.live x i j - on (is₂ f v x j) (byte counts i))
-      live = rw (lowered_square b v is.size v8 counts, is.live) (fun_ext (λ x. eq-cases x f
+      live = rw (lowered_square b v is.size v8 counts, is.live) (fun_ext (λ x. eq_cases x f
           (λ e. rw (e, upd_same a.books.live f (λ i j. a.books.live f i j - on (eqb v j) (byte counts i))) (fun_ext (λ i. fun_ext (λ j. rw (is₂_own f v j) refl))))
           (λ e. rw (upd_other a.books.live f (λ i j. a.books.live f i j - on (eqb v j) (byte counts i)) x e)
-          (fun_ext (λ i. fun_ext (λ j. rw (is₂-false f v x j (λ p q. e (sym p)), on-false false (byte counts i) refl) (omega arith)))))))
+          (fun_ext (λ i. fun_ext (λ j. rw (is₂_false f v x j (λ p q. e (sym p)), on_false false (byte counts i) refl) (omega arith)))))))

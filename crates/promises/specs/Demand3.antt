@@ -42,6 +42,6 @@ NeverUnsound = (t b : List ℕ) (rs : List (List ℕ)) → Session t b rs
 
 pub record Demand3 : Type 0 where
   pub release : Release
-  pub quiet-books : QuietBooks
+  pub quiet_books : QuietBooks
   pub progress : Progress
   pub never_unsound : NeverUnsound

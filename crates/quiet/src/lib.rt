@@ -1,4 +1,6 @@
 // Whether a session is quiet: no message in flight, no book under repair, no count owed.
+#![tactic(auto)]
+
 ghost use Rattle.std.specs.Prelude.{◌≡◌, ◌+◌, ◌≤◌, length, drop, take};
 ghost use Rattle.tables.specs.Layout.{Whole};
 ghost use Rattle.tables.specs.Walks.{every_part};

@@ -17,9 +17,9 @@ below {P} x y less more = go (ltb x y) refl
     go false e = more (ltb-false x y e)
 
 module _ (tag ps ts fs f k v j n : ℕ) (counts : List ℕ) where
-  pub none-tag : tag < 1 → true ≡ message_fits ps ts fs (tagged tag f k v j n counts)
+  pub none_tag : tag < 1 → true ≡ message_fits ps ts fs (tagged tag f k v j n counts)
   unfolding message_fits tagged
-  none-tag h = let e : tag ≡ 0 = omega arith in rw e refl
+  none_tag h = let e : tag ≡ 0 = omega arith in rw e refl
 
   pub waits_tag : 1 ≤ tag → tag ≤ 2 → message_fits ps ts fs (publish f k) ≡ message_fits ps ts fs (tagged tag f k v j n counts)
   unfolding message_fits tagged
@@ -28,9 +28,9 @@ module _ (tag ps ts fs f k v j n : ℕ) (counts : List ℕ) where
       (λ h. let e : tag ≡ 1 = omega arith in rw e refl)
       (λ h. let e : tag ≡ 2 = omega arith in rw e refl)
 
-  pub moves-tag : 3 ≤ tag → tag ≤ 6 → message_fits ps ts fs (transit f k v j) ≡ message_fits ps ts fs (tagged tag f k v j n counts)
+  pub moves_tag : 3 ≤ tag → tag ≤ 6 → message_fits ps ts fs (transit f k v j) ≡ message_fits ps ts fs (tagged tag f k v j n counts)
   unfolding message_fits tagged
-  moves-tag low high =
+  moves_tag low high =
       below tag 5
       (λ less. below tag 4
       (λ h. let e : tag ≡ 3 = omega arith in rw e refl)
@@ -39,9 +39,9 @@ module _ (tag ps ts fs f k v j n : ℕ) (counts : List ℕ) where
       (λ h. let e : tag ≡ 5 = omega arith in rw e refl)
       (λ h. let e : tag ≡ 6 = omega arith in rw e refl))
 
-  pub dropped-tag : 10 ≤ tag → tag ≤ 11 → message_fits ps ts fs (dropped f k v j n) ≡ message_fits ps ts fs (tagged tag f k v j n counts)
+  pub dropped_tag : 10 ≤ tag → tag ≤ 11 → message_fits ps ts fs (dropped f k v j n) ≡ message_fits ps ts fs (tagged tag f k v j n counts)
   unfolding message_fits tagged
-  dropped-tag low high =
+  dropped_tag low high =
       below tag 11
       (λ h. let e : tag ≡ 10 = omega arith in rw e refl)
       (λ h. let e : tag ≡ 11 = omega arith in rw e refl)

@@ -1,4 +1,6 @@
 // The ranges of document 01 on plain numbers: row 0, and the fields of one task, finish, store book and message.
+#![tactic(auto)]
+
 ghost use Rattle.std.specs.Prelude.{◌≡◌, List, ℕ, ◌≤◌, ◌/◌, ◌^◌};
 ghost use Rattle.rules.specs.Messages.{publish, transit, report, release, ghost_ended, dropped, tagged};
 ghost use Rattle.rules.specs.Sound.{head_sound, task_fits, finish_fits, parent_fits, book_fits, message_fits};

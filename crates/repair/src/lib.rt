@@ -1,4 +1,6 @@
 // The two tests of a store book, a part of 144 bytes, that look at dead places: under repair, and a count owed.
+#![tactic(auto)]
+
 ghost use Rattle.std.specs.Prelude.{◌≡◌, not, ◌∷◌, [], ◌<◌, eqb, ltb, length};
 ghost use Rattle.tables.specs.Walks.{every, some_below};
 ghost use Rattle.rules.specs.Books.{dead_column, under_repair, owed_cell, owes};

@@ -1,5 +1,7 @@
 // The printed run: plays a schedule from standard input, of any length, on tables that start as zeros; a line for each record, then
 // the running tasks, the status of finish 1 and the messages in flight.
+#![tactic(auto)]
+
 ghost use Rattle.std.specs.Prelude.{◌+◌, ◌*◌, ◌^◌, ◌≤◌, ◌<◌, length};
 ghost use Rattle.io.specs.Counts.{IsPrefixLen};
 

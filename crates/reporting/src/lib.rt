@@ -1,4 +1,6 @@
 // The end of a task that is no main task: others stay at its place, or it was the last there and the place reports what it received since it last did.
+#![tactic(auto)]
+
 ghost use Rattle.std.specs.Prelude.{◌≡◌, cond, true, false, ◌<◌, eqb};
 ghost use Rattle.tables.specs.Layout.{Whole};
 ghost use Rattle.rules.specs.Fields.{local_live};

@@ -20,7 +20,7 @@ use Rattle.rules.specs.Messages.{report, count_dropped, dropped, slot_place, mes
 use Rattle.rules.specs.Deliver.{book_absent, discarded, waits_for_repair, held, deliver_count_dropped, delivered, deliver_message, deliver_step}
 use Rattle.rules.specs.Refusals.{not_there, not_ready, must_wait, answer}
 use Rattle.rules.specs.Step.{step, after}
-use Rattle.rules.proofs.Unique.{after-done}
+use Rattle.rules.proofs.Unique.{after_done}
 use Rattle.rules.proofs.Taken.{taken, whole, is_deliver, slot_there}
 
 some_head : (l : List Bool) → some_of (true ∷ l) ≡ true
@@ -39,9 +39,9 @@ asked-refused t f v j h =
     some_tail (book_absent t f) _ (some_tail (eqb (live t f v j) 0) _ (ap (λ (c : Bool). some_of (c ∷ [])) h ∙ some_head []))
 
 -- Cancelling before adopting: a cancel while adopt is due is refused (4).
-pub due-refused : (t : List ℕ) (f v : ℕ) → adopt_due t f ≡ 1 → not_ready t (cancel f v) ≡ true
+pub due_refused : (t : List ℕ) (f v : ℕ) → adopt_due t f ≡ 1 → not_ready t (cancel f v) ≡ true
 unfolding not_ready
-due-refused t f v h =
+due_refused t f v h =
     some_tail (book_absent t f) _
     (ap (λ (c : Bool). some_of (c ∷ eqb (column (book_of t f) v) 0 ∷ [])) (eq-eqb (adopt_due t f) 1 h) ∙ some_head _)
 
@@ -67,12 +67,12 @@ module _ (t r : List ℕ) (f k v j x : ℕ) (is-taken : answer t r ≡ 0) (kind 
   delivers : action_of r ≡ deliver (byte r 1)
   delivers = is_deliver r kind (taken t r is-taken).action
 
-  pub reply-slot : byte r 1 < 128
-  reply-slot = slot_there t (byte r 1) (subst (λ (a : Action). not_there t a ≡ false) delivers (taken t r is-taken).own.there)
+  pub reply_slot : byte r 1 < 128
+  reply_slot = slot_there t (byte r 1) (subst (λ (a : Action). not_there t a ≡ false) delivers (taken t r is-taken).own.there)
 
   replies : after t r ≡ deliver_count_dropped t (byte r 1) f k v j x
   unfolding step deliver_step deliver_message discarded delivered
-  replies = after-done t r is-taken ∙ ap (step t) delivers ∙ ap (deliver_message t (byte r 1)) asks
+  replies = after_done t r is-taken ∙ ap (step t) delivers ∙ ap (deliver_message t (byte r 1)) asks
 
   denied_there : List ℕ
   denied_there = set t (deny_place f j) (with_mark (deny_mask t f j) v)
@@ -88,13 +88,13 @@ module _ (t r : List ℕ) (f k v j x : ℕ) (is-taken : answer t r ≡ 0) (kind 
   unfolding deliver_count_dropped send denied_there reply
   written = replies
 
-  pub reply-says : byte (after t r) (place (slot_row (byte r 1)) 5) ≡ x - received t f j v
+  pub reply_says : byte (after t r) (place (slot_row (byte r 1)) 5) ≡ x - received t f j v
   unfolding reply bytes_of message
-  reply-says =
+  reply_says =
       let at : place (slot_row (byte r 1)) 5 ≡ slot_place (byte r 1) + 5 = omega arith in
       ap (λ (u : List ℕ). byte u (place (slot_row (byte r 1)) 5)) written
       ∙ ap (byte (write denied_there (slot_place (byte r 1)) reply)) at
-      ∙ byte-write_in denied_there (slot_place (byte r 1)) reply 5 (omega arith) (omega (arith, long, reply-slot))
+      ∙ byte-write_in denied_there (slot_place (byte r 1)) reply 5 (omega arith) (omega (arith, long, reply_slot))
 
-  pub reply-whole : Whole (after t r)
-  reply-whole = ap length written ∙ length-write reply denied_there (slot_place (byte r 1)) ∙ long
+  pub reply_whole : Whole (after t r)
+  reply_whole = ap length written ∙ length-write reply denied_there (slot_place (byte r 1)) ∙ long

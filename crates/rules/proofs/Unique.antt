@@ -9,24 +9,24 @@ use borrow.Author.Tests.{eq-eqb, ne_eqb, eqb-true, eqb-false}
 use Rattle.rules.specs.Action.{action_of}
 use Rattle.rules.specs.Refusals.{Check, refuse, first_of, refusals, answer}
 use Rattle.rules.specs.Step.{step, after}
-use Rattle.rules.specs.Outcome.{First, none-applies, applies, passes, Outcome}
+use Rattle.rules.specs.Outcome.{First, none_applies, applies, passes, Outcome}
 
 first_is : {l : List Check} {a : ℕ} → First l a → a ≡ first_of l
 unfolding first_of
-first_is none-applies = refl
+first_is none_applies = refl
 first_is applies = refl
 first_is (passes p) = first_is p
 
 first_of_lem : (l : List Check) → First l (first_of l)
 unfolding first_of
-first_of_lem [] = none-applies
+first_of_lem [] = none_applies
 first_of_lem (refuse true n ∷ l) = applies
 first_of_lem (refuse false n ∷ l) = passes (first_of_lem l)
 
 module _ (t r : List ℕ) where
-  pub after-done : answer t r ≡ 0 → after t r ≡ step t (action_of r)
+  pub after_done : answer t r ≡ 0 → after t r ≡ step t (action_of r)
   unfolding after
-  after-done h = rw (eq-eqb (answer t r) 0 h)
+  after_done h = rw (eq-eqb (answer t r) 0 h)
 
   pub after-refused : answer t r ≢ 0 → after t r ≡ t
   unfolding after
@@ -40,13 +40,13 @@ module _ (t r : List ℕ) where
   tables_are {a} {u} o = go (eqb a 0) refl
     where
       go : (v : Bool) → eqb a 0 ≡ v → u ≡ after t r
-      go true e = let z = eqb-true a 0 e in o.done z ∙ sym (after-done (sym (answer_is o) ∙ z))
+      go true e = let z = eqb-true a 0 e in o.done z ∙ sym (after_done (sym (answer_is o) ∙ z))
       go false e = let z = eqb-false a 0 e in o.refused z ∙ sym (after-refused (λ q. z (answer_is o ∙ q)))
 
   -- the rules' own outcome fits
   pub outcome : Outcome t r (answer t r) (after t r)
   unfolding answer
-  outcome = record { answered = first_of_lem (refusals t r); done = after-done; refused = after-refused }
+  outcome = record { answered = first_of_lem (refusals t r); done = after_done; refused = after-refused }
 
   -- and no second one does
   pub unique : {a b : ℕ} {u w : List ℕ} → Outcome t r a u → Outcome t r b w → (a ≡ b) × (u ≡ w)

@@ -11,8 +11,8 @@ pub data Action : Type 0 where
   deliver : (slot : ℕ) → Action
   kill : (place : ℕ) → Action
   adopt : (finish : ℕ) → Action
-  cancel : (finish deadPlace : ℕ) → Action
-  ask : (finish deadPlace live_place : ℕ) → Action
+  cancel : (finish dead_place : ℕ) → Action
+  ask : (finish dead_place live_place : ℕ) → Action
   begin : (places : ℕ) → Action
 
 -- an action whose operand x must be 0

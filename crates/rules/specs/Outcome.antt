@@ -6,7 +6,7 @@ use Rattle.rules.specs.Step.{step}
 
 -- First that applies, in this order: n is the number of the first check whose test holds, 0 where none does.
 pub data First : List Check → ℕ → Type 0 where
-  none-applies : First [] 0
+  none_applies : First [] 0
   applies : {n : ℕ} {l : List Check} → First (refuse true n ∷ l) n
   passes : {n m : ℕ} {l : List Check} → First l m → First (refuse false n ∷ l) m
 

@@ -20,8 +20,8 @@ task_fits ps fs k from at finish status sent maker =
 -- Every place below the place count; a finish's parent below its own number, its opener below its main task; made numbers
 -- where a task is named; statuses and marks (0 or 1) as listed.
 unfoldable pub finish_fits : ℕ → ℕ → ℕ → ℕ → ℕ → ℕ → ℕ → ℕ → ℕ → Bool
-finish_fits ps ts f home opener parent status publishedMark main =
-    every (ltb home ps ∷ ltb opener main ∷ ltb parent f ∷ leb 1 status ∷ leb status 5 ∷ leb publishedMark 1 ∷ leb 1 main ∷ leb main ts ∷ [])
+finish_fits ps ts f home opener parent status published_mark main =
+    every (ltb home ps ∷ ltb opener main ∷ ltb parent f ∷ leb 1 status ∷ leb status 5 ∷ leb published_mark 1 ∷ leb 1 main ∷ leb main ts ∷ [])
 
 -- An adopted book's parent not 0.
 unfoldable pub parent_fits : ℕ → ℕ → Bool

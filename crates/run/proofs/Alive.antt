@@ -12,24 +12,24 @@ use Rattle.rules.specs.Refusals.{answer}
 use Rattle.rules.specs.Step.{after}
 use Rattle.rules.specs.Quiet.{quiet}
 use Rattle.rules.specs.Sessions.{is_begin}
-use Rattle.model.specs.Base.Cases.{bool_cases, eq-cases, cond_cases, both}
+use Rattle.model.specs.Base.Cases.{bool_cases, eq_cases, cond_cases, both}
 use Rattle.model.specs.State.{State}
 use Rattle.promises.specs.View.{view}
 use Rattle.promises.specs.Settling.{record_of, is_settling}
 use Rattle.promises.proofs.Moved.{Moved}
-use Rattle.promises.proofs.Rows.{read_places, read_tasks-made, read_task-at}
-use Rattle.promises.proofs.Held.{task-number}
-use Rattle.promises.proofs.Good.{Good, as_seen, tasks-below}
+use Rattle.promises.proofs.Rows.{read_places, read_tasks_made, read_task_at}
+use Rattle.promises.proofs.Held.{task_number}
+use Rattle.promises.proofs.Good.{Good, as_seen, tasks_below}
 use Rattle.promises.proofs.SoundTables.{good_held}
 use Rattle.promises.proofs.ActsMove.{good_next, good_settles, good_spawns, good_ends, good_kills}
-use Rattle.promises.proofs.ActsTaken.{spawn-taken, end-taken}
+use Rattle.promises.proofs.ActsTaken.{spawn_taken, end_taken}
 use Rattle.promises.proofs.Stirs.{good_stirs}
 use Rattle.growth.specs.Grown.{grown_room}
 use Rattle.plan.specs.declared.Plan.{Plan}
 use Rattle.acts.specs.Acts.{spawns_more, next_act}
 use Rattle.plan.proofs.Ranges.{Ranges}
 use Rattle.run.proofs.Cover.{Still}
-use Rattle.run.proofs.Levels.{spawns-below}
+use Rattle.run.proofs.Levels.{spawns_below}
 use Rattle.run.proofs.Lives.{Lives, settle_lives, end_lives, kill_lives, spawn_lives}
 
 pub record Alive (p : Plan) (n : ℕ) (u : List ℕ) : Type 0 where
@@ -60,7 +60,7 @@ still_quiet {u} good still = bool_cases (quiet u) (λ e. e) (λ e. let x = good_
 
 -- the next place of 2 or more is another
 next_place : (at n : ℕ) → 2 ≤ n → at < n → at ≡ (at + 1) % n → ⊥
-next_place at n two l e = eq-cases (at + 1) n
+next_place at n two l e = eq_cases (at + 1) n
     (λ q. omega (arith, ap (λ x. x % n) q, mod_self n))
     (λ ne. omega (arith, mod-eq_of_lt {n = at + 1} {m = n} (omega arith)))
 
@@ -73,9 +73,9 @@ module _ {p : Plan} (fit : Ranges p) {n : ℕ} {u : List ℕ} (alive : Alive p n
     alive = record { good = (good_next u alive.good x other).good; lives = subst (Lives p (suc n)) (sym m.1.is) (lives m.0 m.2) };
   }
 
-  pub kill_goes : answer u (record_of (kill p.victim)) ≡ 0 → Goes p n u (record_of (kill p.victim))
+  pub kill-goes : answer u (record_of (kill p.victim)) ≡ 0 → Goes p n u (record_of (kill p.victim))
   unfolding is_begin
-  kill_goes e = goes (kill p.victim) refl e (good_kills u alive.good p.victim e) (λ _ m. kill_lives alive.lives fit.places.1 m)
+  kill-goes e = goes (kill p.victim) refl e (good_kills u alive.good p.victim e) (λ _ m. kill_lives alive.lives fit.places.1 m)
 
   pub settle_goes : (x : Action) → is_settling x ≡ true → answer u (record_of x) ≡ 0 → Goes p n u (record_of x)
   settle_goes x settling e = goes x (settling_other x settling) e (good_settles u alive.good x settling e) (λ _ m. settle_lives alive.lives alive.good.inv m)
@@ -86,28 +86,28 @@ module _ {p : Plan} (fit : Ranges p) {n : ℕ} {u : List ℕ} (alive : Alive p n
     calm = still_quiet alive.good still
 
     number : (0 < k) × (k ≤ (view u).tasks.made)
-    number = task-number (good_held u alive.good) k made
+    number = task_number (good_held u alive.good) k made
 
     end_goes : Goes p n u (3 ∷ k ∷ 0 ∷ 0 ∷ [])
     unfolding record_of is_begin
     end_goes =
-        let e = end-taken alive.good calm k made runs in
+        let e = end_taken alive.good calm k made runs in
         goes (end k) refl e (good_ends u alive.good k e) (λ _ m. end_lives alive.lives alive.good.inv m)
 
     spawn_goes : spawns_more p u k ≡ true → Goes p n u (1 ∷ k ∷ (task_at u k + 1) % p.places ∷ 0 ∷ [])
     unfolding record_of is_begin
     spawn_goes more =
         let s = as_seen alive.good in
-        let below = spawns-below alive.good p k number.0 number.1 more in
+        let below = spawns_below alive.good p k number.0 number.1 more in
         let room = grown_room alive.lives.grown k number.0 number.1 below.0 below.1 in
         let next : ℕ = (task_at u k + 1) % p.places in
         let inside : next < places u = omega (arith, read_places s, alive.lives.places, mod-lt (task_at u k + 1) {m = p.places} (omega (arith, fit.places.0))) in
-        let at = read_task-at s k number.0 (omega (arith, number.1, tasks-below alive.good)) in
+        let at = read_task_at s k number.0 (omega (arith, number.1, tasks_below alive.good)) in
         let here : task_at u k < p.places = omega (arith, at, (alive.good.inv.task_ranges k number.0 number.1).1, alive.lives.places) in
-        let few : tasks_made u < 255 = omega (arith, read_tasks-made s, room, fit.size) in
-        let e = spawn-taken alive.good calm k next made runs inside (next_place (task_at u k) p.places fit.places.0 here) few in
+        let few : tasks_made u < 255 = omega (arith, read_tasks_made s, room, fit.size) in
+        let e = spawn_taken alive.good calm k next made runs inside (next_place (task_at u k) p.places fit.places.0 here) few in
         goes (spawn k next) refl e (good_spawns u alive.good k next e) (λ _ m. spawn_lives alive.lives below.0 below.1 m)
 
-    pub act_goes : Goes p n u (next_act p u k)
+    pub act-goes : Goes p n u (next_act p u k)
     unfolding next_act
-    act_goes = cond_cases (Goes p n u) (spawns_more p u k) (1 ∷ k ∷ (task_at u k + 1) % p.places ∷ 0 ∷ []) (3 ∷ k ∷ 0 ∷ 0 ∷ []) spawn_goes (λ _. end_goes)
+    act-goes = cond_cases (Goes p n u) (spawns_more p u k) (1 ∷ k ∷ (task_at u k + 1) % p.places ∷ 0 ∷ []) (3 ∷ k ∷ 0 ∷ 0 ∷ []) spawn_goes (λ _. end_goes)

@@ -7,16 +7,16 @@ use native.Mathlib.Omega.{arith}
 use lib.Dec.{eqb, ltb}
 use borrow.Author.Tests.{eqb-true, eqb-false, ltb-true, ltb-false}
 use Rattle.rules.specs.Refusals.{answer}
-use Rattle.model.specs.Base.Cases.{bool_cases, eq-cases, cond_cases}
+use Rattle.model.specs.Base.Cases.{bool_cases, eq_cases, cond_cases}
 use Rattle.acts.specs.First.{first_from}
 use Rattle.turns.specs.Choice.{first_taken, taken_or}
 
 module _ (p : ℕ → Bool) where
   -- it is none of those before
-  pub first-low : (n i : ℕ) → i ≤ first_from p i n
+  pub first_low : (n i : ℕ) → i ≤ first_from p i n
   unfolding first_from
-  first-low zero i = omega arith
-  first-low (suc n) i = cond_cases (λ x. i ≤ x) (p i) i (first_from p (suc i) n) (λ _. omega arith) (λ _. omega (arith, first-low n (suc i)))
+  first_low zero i = omega arith
+  first_low (suc n) i = cond_cases (λ x. i ≤ x) (p i) i (first_from p (suc i) n) (λ _. omega arith) (λ _. omega (arith, first_low n (suc i)))
 
   -- within the n numbers, the test holds of it
   pub first_holds : (n i : ℕ) → first_from p i n < i + n → p (first_from p i n) ≡ true
@@ -32,7 +32,7 @@ module _ (p : ℕ → Bool) where
   first-none zero i x low high = absurd (omega arith)
   first-none (suc n) i x low high = bool_cases (p i)
       (λ e. absurd (omega (arith, rw e at high)))
-      (λ e. eq-cases x i (λ q. rw q e) (λ ne. first-none n (suc i) x (omega arith) (rw e at high)))
+      (λ e. eq_cases x i (λ q. rw q e) (λ ne. first-none n (suc i) x (omega arith) (rw e at high)))
 
 -- none of n numbered records is taken
 abbrev pub NoneOf : List ℕ → (ℕ → List ℕ) → ℕ → Type 0

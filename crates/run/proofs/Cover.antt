@@ -13,7 +13,7 @@ use Rattle.rules.specs.Fields.{places, finishes_made, finish_made, in_session}
 use Rattle.rules.specs.Action.{Action, unknown, spawn, open_finish, end, deliver, kill, adopt, cancel, ask, begin, only0, action_named, action_of}
 use Rattle.rules.specs.Refusals.{wrong_length, no_action, unsound, not_there, answer}
 use Rattle.rules.specs.Sound.{sound}
-use Rattle.sound.proofs.Use.{places-range}
+use Rattle.sound.proofs.Use.{places_range}
 use Rattle.rules.proofs.Taken.{taken, not-not, neither, slot_there}
 use Rattle.model.specs.Base.Cases.{cond_cases, both}
 use Rattle.promises.specs.Settling.{record_of, is_settling}
@@ -48,9 +48,9 @@ unfolding finish_made
 made_range t f e = let r = every_each _ e in (leb-true 1 f r.0, leb-true f (finishes_made t) r.1.0)
 
 -- on sound tables there are at most 8 places
-place-range : (t : List ℕ) (v : ℕ) → sound t ≡ true → in_session t v ≡ true → v < 8
+place_range : (t : List ℕ) (v : ℕ) → sound t ≡ true → in_session t v ≡ true → v < 8
 unfolding in_session
-place-range t v ok e = omega (arith, (places-range t ok).1, ltb-true v (places t) e)
+place_range t v ok e = omega (arith, (places_range t ok).1, ltb-true v (places t) e)
 
 module _ (t : List ℕ) where
   -- each taken record of a kind is one of n numbered ones
@@ -71,43 +71,43 @@ module _ (t : List ℕ) where
       subst (Among records n) (sym is) (each (byte r 1) (byte r 2) (byte r 3) (subst (λ (s : List ℕ). answer t s ≡ 0) is e))
 
   -- the operands of a taken record are in range, those that must be 0 are 0, and the number follows from them
-  deliver-number : (a b c : ℕ) → answer t (4 ∷ a ∷ b ∷ c ∷ []) ≡ 0 → Among deliver_record 128 (4 ∷ a ∷ b ∷ c ∷ [])
+  deliver_number : (a b c : ℕ) → answer t (4 ∷ a ∷ b ∷ c ∷ []) ≡ 0 → Among deliver_record 128 (4 ∷ a ∷ b ∷ c ∷ [])
   unfolding deliver_record action_of action_named only0
-  deliver-number a b c e =
+  deliver_number a b c e =
       let y = must_be_0 b _ (taken t _ e).action in
       let z = must_be_0 c _ y.1 in
       (a, (slot_there t a (rw (y.0, z.0) at (taken t _ e).own.there), rw (y.0, z.0) refl))
 
-  adopt-number : (a b c : ℕ) → answer t (6 ∷ a ∷ b ∷ c ∷ []) ≡ 0 → Among adopt_record (finishes_made t) (6 ∷ a ∷ b ∷ c ∷ [])
+  adopt_number : (a b c : ℕ) → answer t (6 ∷ a ∷ b ∷ c ∷ []) ≡ 0 → Among adopt_record (finishes_made t) (6 ∷ a ∷ b ∷ c ∷ [])
   unfolding adopt_record action_of action_named only0 not_there
-  adopt-number a b c e =
+  adopt_number a b c e =
       let y = must_be_0 b _ (taken t _ e).action in
       let z = must_be_0 c _ y.1 in
       let r = made_range t a (not-not _ (rw (y.0, z.0) at (taken t _ e).own.there)) in
       let f : suc (a - 1) ≡ a = omega arith in
       (a - 1, (omega arith, rw (f, y.0, z.0) refl))
 
-  cancel-number : (a b c : ℕ) → answer t (7 ∷ a ∷ b ∷ c ∷ []) ≡ 0 → Among cancel_record (8 * finishes_made t) (7 ∷ a ∷ b ∷ c ∷ [])
+  cancel_number : (a b c : ℕ) → answer t (7 ∷ a ∷ b ∷ c ∷ []) ≡ 0 → Among cancel_record (8 * finishes_made t) (7 ∷ a ∷ b ∷ c ∷ [])
   unfolding cancel_record action_of action_named only0 unsound not_there
-  cancel-number a b c e =
+  cancel_number a b c e =
       let z = must_be_0 c _ (taken t _ e).action in
       let ok = not-not _ (rw z.0 at (taken t _ e).sound) in
       let h = every_each _ (not-not _ (rw z.0 at (taken t _ e).own.there)) in
       let r = made_range t a h.0 in
-      let v8 = place-range t b ok h.1.0 in
+      let v8 = place_range t b ok h.1.0 in
       let i : ℕ = 8 * (a - 1) + b in
       let f : suc (i / 8) ≡ a = omega arith in
       let v : i % 8 ≡ b = omega arith in
       (i, (omega arith, rw (f, v, z.0) refl))
 
-  ask-number : (a b c : ℕ) → answer t (8 ∷ a ∷ b ∷ c ∷ []) ≡ 0 → Among ask_record (64 * finishes_made t) (8 ∷ a ∷ b ∷ c ∷ [])
+  ask_number : (a b c : ℕ) → answer t (8 ∷ a ∷ b ∷ c ∷ []) ≡ 0 → Among ask_record (64 * finishes_made t) (8 ∷ a ∷ b ∷ c ∷ [])
   unfolding ask_record action_of action_named unsound not_there
-  ask-number a b c e =
+  ask_number a b c e =
       let ok = not-not _ (taken t _ e).sound in
       let h = every_each _ (not-not _ (taken t _ e).own.there) in
       let r = made_range t a h.0 in
-      let v8 = place-range t b ok h.1.0 in
-      let j8 = place-range t c ok h.1.1.0 in
+      let v8 = place_range t b ok h.1.0 in
+      let j8 = place_range t c ok h.1.1.0 in
       let i : ℕ = 64 * (a - 1) + 8 * b + c in
       let f : suc (i / 64) ≡ a = omega arith in
       let v : i / 8 % 8 ≡ b = omega arith in
@@ -115,16 +115,16 @@ module _ (t : List ℕ) where
       (i, (omega arith, rw (f, v, j) refl))
 
   pub deliver_covers : Covers 4 deliver_record 128
-  deliver_covers = by_bytes 4 deliver_record 128 deliver-number
+  deliver_covers = by_bytes 4 deliver_record 128 deliver_number
 
   pub adopt_covers : Covers 6 adopt_record (finishes_made t)
-  adopt_covers = by_bytes 6 adopt_record (finishes_made t) adopt-number
+  adopt_covers = by_bytes 6 adopt_record (finishes_made t) adopt_number
 
   pub cancel_covers : Covers 7 cancel_record (8 * finishes_made t)
-  cancel_covers = by_bytes 7 cancel_record (8 * finishes_made t) cancel-number
+  cancel_covers = by_bytes 7 cancel_record (8 * finishes_made t) cancel_number
 
   pub ask_covers : Covers 8 ask_record (64 * finishes_made t)
-  ask_covers = by_bytes 8 ask_record (64 * finishes_made t) ask-number
+  ask_covers = by_bytes 8 ask_record (64 * finishes_made t) ask_number
 
   -- no deliver, adopt, cancel or ask is taken
   abbrev pub Still : Type 0
@@ -132,15 +132,15 @@ module _ (t : List ℕ) where
 
   module _ (adopts : NoneOf t adopt_record (finishes_made t)) (cancels : NoneOf t cancel_record (8 * finishes_made t))
       (asks : NoneOf t ask_record (64 * finishes_made t)) (delivers : NoneOf t deliver_record 128) where
-    pub none-settles : Still
+    pub none_settles : Still
     unfolding is_settling record_of
-    none-settles unknown s e = both s refl
-    none-settles (spawn k p) s e = both s refl
-    none-settles (open_finish k) s e = both s refl
-    none-settles (end k) s e = both s refl
-    none-settles (deliver k) s e = refused deliver_covers delivers _ refl e
-    none-settles (kill p) s e = both s refl
-    none-settles (adopt f) s e = refused adopt_covers adopts _ refl e
-    none-settles (cancel f v) s e = refused cancel_covers cancels _ refl e
-    none-settles (ask f v j) s e = refused ask_covers asks _ refl e
-    none-settles (begin n) s e = both s refl
+    none_settles unknown s e = both s refl
+    none_settles (spawn k p) s e = both s refl
+    none_settles (open_finish k) s e = both s refl
+    none_settles (end k) s e = both s refl
+    none_settles (deliver k) s e = refused deliver_covers delivers _ refl e
+    none_settles (kill p) s e = both s refl
+    none_settles (adopt f) s e = refused adopt_covers adopts _ refl e
+    none_settles (cancel f v) s e = refused cancel_covers cancels _ refl e
+    none_settles (ask f v j) s e = refused ask_covers asks _ refl e
+    none_settles (begin n) s e = both s refl

@@ -4,19 +4,19 @@ use mathlib.Core.Path.{◌≡◌, ap, ◌∙◌}
 use mathlib.Core.Bool.{false, not}
 use Prim.Native.Nat.{ℕ, suc, ◌+◌, ◌-◌, ◌*◌, ◌≤◌, ◌<◌}
 use native.Mathlib.Omega.{arith}
-use Rattle.model.specs.Base.Updates.{on, on-true, on-false}
+use Rattle.model.specs.Base.Updates.{on, on_true, on_false}
 use Rattle.model.specs.State.{State}
-use Rattle.model.specs.Step.{Spawn, spawns-first, spawns_later, End, Kill, kills, Settle, ends}
+use Rattle.model.specs.Step.{Spawn, spawns_first, spawns_later, End, Kill, kills, Settle, ends}
 use Rattle.model.specs.Guards.{Runs}
 use Rattle.model.specs.Inv.{Inv}
 use Rattle.model.specs.Keeps.{move_keeps}
 use Rattle.model.specs.Work.{work, ended_tasks}
 use Rattle.model.specs.Kept.{Kept}
 use Rattle.model.specs.Falls.{settle_falls}
-use Rattle.model.specs.Falls.Kept.{settle-kept}
-use Rattle.model.specs.Adds.Acts.{spawn-adds, end-adds}
-use Rattle.model.specs.Adds.Kill.{kill-adds}
-use Rattle.model.specs.Adds.Tasks.{kept-ended, ended-most, end_kept, end-ended, spawn-tasks, kill-tasks}
+use Rattle.model.specs.Falls.Kept.{settle_kept}
+use Rattle.model.specs.Adds.Acts.{spawn_adds, end_adds}
+use Rattle.model.specs.Adds.Kill.{kill_adds}
+use Rattle.model.specs.Adds.Tasks.{kept_ended, ended_most, end_kept, end_ended, spawn_tasks, kill_tasks}
 use Rattle.plan.specs.Tree.{level_of, children_of, tree_size}
 use Rattle.growth.specs.Grown.{Grown, grown_room, grown_same, grown_more}
 use Rattle.plan.specs.declared.Plan.{Plan}
@@ -37,7 +37,7 @@ killed_lived : {s s' : State} {v : ℕ} → Kill s v s' → s.dead v ≡ false
 killed_lived (kills a b c) = c
 
 spawner-runs : {s s' : State} {k v : ℕ} → Spawn s k v s' → Runs s k
-spawner-runs (spawns-first k a b c d e g h) = a
+spawner-runs (spawns_first k a b c d e g h) = a
 spawner-runs (spawns_later k a b c d e) = a
 
 module _ {p : Plan} {n : ℕ} {s : State} (lives : Lives p n s) where
@@ -53,19 +53,19 @@ module _ {p : Plan} {n : ℕ} {s : State} (lives : Lives p n s) where
   pub settle_lives : {s' : State} → Inv s → Settle s s' → Lives p (suc n) s'
   unfolding steps_left
   settle_lives {s'} inv m =
-      let kept = settle-kept m in
-      kept_lives kept (omega (arith, settle_falls inv m, kept.made, kept-ended kept, ap (λ b. on (not b) 53) (kept.dead p.victim)))
+      let kept = settle_kept m in
+      kept_lives kept (omega (arith, settle_falls inv m, kept.made, kept_ended kept, ap (λ b. on (not b) 53) (kept.dead p.victim)))
 
   pub end_lives : {s' : State} {k : ℕ} → Inv s → End s k s' → Lives p (suc n) s'
   unfolding steps_left
   end_lives {s'} {k} inv m =
       let kept = end_kept m in
-      kept_lives kept (omega (arith, end-adds m, kept.made, end-ended m, ended-most (move_keeps inv (ends k m)), ap (λ b. on (not b) 53) (kept.dead p.victim)))
+      kept_lives kept (omega (arith, end_adds m, kept.made, end_ended m, ended_most (move_keeps inv (ends k m)), ap (λ b. on (not b) 53) (kept.dead p.victim)))
 
   pub kill_lives : {s' : State} → p.places ≤ 8 → Kill s p.victim s' → Lives p (suc n) s'
   unfolding steps_left
   kill_lives {s'} most m =
-      let killed = kill-tasks m in
+      let killed = kill_tasks m in
       let one : suc s.finishes.made * (2 + 3 * s.places) ≡ 2 * (2 + 3 * s.places) = ap (λ f. suc f * (2 + 3 * s.places)) lives.finishes in
       record {
         places = killed.places ∙ lives.places;
@@ -74,13 +74,13 @@ module _ {p : Plan} {n : ℕ} {s : State} (lives : Lives p n s) where
         budget = omega (
           arith,
           lives.budget,
-          kill-adds m,
+          kill_adds m,
           one,
           lives.places,
           killed.made,
           killed.ended,
-          on-true (not (s.dead p.victim)) 53 (ap not (killed_lived m)),
-          on-false (not (s'.dead p.victim)) 53 (ap not killed.dead),
+          on_true (not (s.dead p.victim)) 53 (ap not (killed_lived m)),
+          on_false (not (s'.dead p.victim)) 53 (ap not killed.dead),
         );
       }
 
@@ -89,16 +89,16 @@ module _ {p : Plan} {n : ℕ} {s : State} (lives : Lives p n s) where
       → Spawn s k v s' → Lives p (suc n) s'
   unfolding steps_left
   spawn_lives {s'} {k} above fewer m =
-      let spawned = spawn-tasks m in
+      let spawned = spawn_tasks m in
       let runs = spawner-runs m in
       record {
         places = spawned.places ∙ lives.places;
         finishes = spawned.finishes ∙ lives.finishes;
-        grown = rw spawned.made (grown_more lives.grown k runs.low runs.high above fewer s'.tasks.maker spawned.new-maker (λ x _ l. spawned.maker x (λ e. omega arith)));
+        grown = rw spawned.made (grown_more lives.grown k runs.low runs.high above fewer s'.tasks.maker spawned.new_maker (λ x _ l. spawned.maker x (λ e. omega arith)));
         budget = omega (
           arith,
           lives.budget,
-          spawn-adds m,
+          spawn_adds m,
           spawned.made,
           spawned.ended,
           grown_room lives.grown k runs.low runs.high above fewer,

@@ -8,7 +8,7 @@ use lib.Dec.{eqb}
 use borrow.Author.Tests.{eqb-true, eq-eqb, ne_eqb, le-ltb}
 use Rattle.tables.specs.Bytes.{byte}
 use Rattle.rules.specs.Refusals.{answer}
-use Rattle.model.specs.Base.Cases.{eq-cases, or_cases, or_left, or_right, both}
+use Rattle.model.specs.Base.Cases.{eq_cases, or_cases, or_left, or_right, both}
 use Rattle.turns.specs.Choice.{taken_or}
 use Rattle.turns.specs.Turn.{adopt_record, cancel_record, ask_record, deliver_record, repair_or}
 use Rattle.run.specs.Lowest.{precedes, is_of, Lowest, lowest, none, LowestRepair, LowestDeliver}
@@ -18,7 +18,7 @@ use Rattle.run.proofs.Cover.{Covers, refused, deliver_covers, adopt_covers, canc
 -- bytes do not come before others that begin no higher, if the rest does not where they begin alike
 not-before : (x y : ℕ) (l m : List ℕ) → y ≤ x → (x ≡ y → precedes l m ≡ false) → precedes (x ∷ l) (y ∷ m) ≡ false
 unfolding precedes
-not-before x y l m high rest = eq-cases x y
+not-before x y l m high rest = eq_cases x y
     (λ q. rw (eq-eqb x y q) (rest q))
     (λ ne. rw (ne_eqb x y ne, le-ltb x y high) refl)
 
@@ -99,8 +99,8 @@ no_kinds : (t other : List ℕ) → Lowest t [] other other
 unfolding is_of
 no_kinds t other = none (λ r h _. both h refl)
 
-pub lowest-deliver : LowestDeliver
-lowest-deliver t other = in_front deliver_ordered (deliver_covers t) (below_none 4) other other (no_kinds t other)
+pub lowest_deliver : LowestDeliver
+lowest_deliver t other = in_front deliver_ordered (deliver_covers t) (below_none 4) other other (no_kinds t other)
 
 pub lowest_repair : LowestRepair
 unfolding repair_or

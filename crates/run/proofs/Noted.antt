@@ -7,11 +7,11 @@ use lib.Dec.{eqb}
 use lib.ListN.{length, length-append}
 use borrow.Author.Tests.{ne_eqb}
 use Rattle.tables.specs.Bytes.{over, write}
-use Rattle.tables.proofs.Writes.{write-end, write-after}
+use Rattle.tables.proofs.Writes.{write_end, write-after}
 use Rattle.rules.specs.Refusals.{answer}
 use Rattle.rules.specs.Step.{after}
 use Rattle.rules.proofs.Taken.{taken}
-use Rattle.model.specs.Base.Cases.{eq-cases}
+use Rattle.model.specs.Base.Cases.{eq_cases}
 use Rattle.plan.specs.declared.Plan.{Plan}
 use Rattle.tally.specs.declared.Tally.{Tally}
 use Rattle.tally.specs.Tally.{next, noted}
@@ -35,7 +35,7 @@ pub record Noted (p : Plan) (t log : List ℕ) (n : ℕ) (u out : List ℕ) (r :
 
 pub noted-none : (p : Plan) (t log : List ℕ) → Noted p t log 0 t log (record { steps = 0; kills = 0; zeros = 0 })
 unfolding tables_after log_after tally_after write over
-noted-none p t log = record { steps = refl; tables = refl; written = sym (write-end log []); long = refl; tallied = refl; taken = λ m l. absurd (omega arith) }
+noted-none p t log = record { steps = refl; tables = refl; written = sym (write_end log []); long = refl; tallied = refl; taken = λ m l. absurd (omega arith) }
 
 module _ {p : Plan} {t log u out : List ℕ} {n : ℕ} {r : Tally} (so_far : Noted p t log n u out r) (low : n < 4294967295) where
   abbrev x : List ℕ
@@ -54,5 +54,5 @@ module _ {p : Plan} {t log u out : List ℕ} {n : ℕ} {r : Tally} (so_far : Not
         written = writes ∙ rw (played, so_far.written, text, place) (write-after (log_after p t n) log 0 (record_at p t n ++ (answer_at p t n ∷ [])));
         long = rw (← text) (omega (arith, length-append (log_after p t n) (note_of (played_on u x)), so_far.long));
         tallied = rw (counts, played, ← here, ← so_far.tallied) refl;
-        taken = λ m l. eq-cases m n (λ q. rw (q, ← here) done) (λ q. so_far.taken m (omega arith));
+        taken = λ m l. eq_cases m n (λ q. rw (q, ← here) done) (λ q. so_far.taken m (omega arith));
       }

@@ -41,10 +41,10 @@ pub running_none : (p : Plan) (t log : List ℕ) → Running p t log t log (reco
 running_none p t log = record { noted_all = noted-none p t log; alive = λ l. absurd (omega arith) }
 
 -- the first step is the begin, each later one a turn
-pub begin-first : (p : Plan) (n : ℕ) (u : List ℕ) → n ≡ 0 → step_record p n u ≡ 9 ∷ p.places ∷ 0 ∷ 0 ∷ []
+pub begin_first : (p : Plan) (n : ℕ) (u : List ℕ) → n ≡ 0 → step_record p n u ≡ 9 ∷ p.places ∷ 0 ∷ 0 ∷ []
 unfolding step_record
-begin-first p zero u e = refl
-begin-first p (suc n) u e = absurd (omega arith)
+begin_first p zero u e = refl
+begin_first p (suc n) u e = absurd (omega arith)
 
 pub turn_later : (p : Plan) (n : ℕ) (u : List ℕ) → (n ≡ 0 → ⊥) → step_record p n u ≡ turn_record p n u
 unfolding step_record
@@ -52,16 +52,16 @@ turn_later p zero u n = absurd (n refl)
 turn_later p (suc n) u e = refl
 
 -- a step that has a record is taken: the begin, or a turn
-step_goes : {p : Plan} (n : ℕ) {u : List ℕ} → fits p ≡ true → Whole u → (0 < n → Alive p n u) → (step_record p n u ≡ [] → ⊥) → Goes p n u (step_record p n u)
+step-goes : {p : Plan} (n : ℕ) {u : List ℕ} → fits p ≡ true → Whole u → (0 < n → Alive p n u) → (step_record p n u ≡ [] → ⊥) → Goes p n u (step_record p n u)
 unfolding step_record
-step_goes zero fit whole alive some = alive_first fit whole
-step_goes (suc n) fit whole alive some = alive_step fit (alive (omega arith)) some
+step-goes zero fit whole alive some = alive_first fit whole
+step-goes (suc n) fit whole alive some = alive_step fit (alive (omega arith)) some
 
 -- one that has none comes after the begin, and finds finish 1 released
-step-ends : {p : Plan} (n : ℕ) {u : List ℕ} → fits p ≡ true → (0 < n → Alive p n u) → step_record p n u ≡ [] → is_released u 1 ≡ true
+step_ends : {p : Plan} (n : ℕ) {u : List ℕ} → fits p ≡ true → (0 < n → Alive p n u) → step_record p n u ≡ [] → is_released u 1 ≡ true
 unfolding step_record
-step-ends zero fit alive e = let l = ap length e in absurd (omega arith)
-step-ends (suc n) fit alive e = alive_ended fit (alive (omega arith)) e
+step_ends zero fit alive e = let l = ap length e in absurd (omega arith)
+step_ends (suc n) fit alive e = alive_ended fit (alive (omega arith)) e
 
 few : {p : Plan} (n : ℕ) {u : List ℕ} → (0 < n → Alive p n u) → n ≤ 2089
 few zero alive = omega arith
@@ -77,7 +77,7 @@ module _ {p : Plan} {t log u out : List ℕ} {r : Tally} (fit : fits p ≡ true)
   kind_of = ap (λ (y : Played). y.kind) played
 
   goes : (d.kind ≡ 0 → ⊥) → Goes p r.steps u (step_record p r.steps u)
-  goes some = step_goes r.steps fit whole run.alive (λ e. some (kind_of ∙ ap (λ (y : List ℕ). byte y 0) e))
+  goes some = step-goes r.steps fit whole run.alive (λ e. some (kind_of ∙ ap (λ (y : List ℕ). byte y 0) e))
 
   -- there is room for the step, and it is taken
   pub running_room : (d.kind ≡ 0 → ⊥) → (r.steps < 2089) × (d.answer ≡ 0)
@@ -105,10 +105,10 @@ module _ {p : Plan} {t log u out : List ℕ} {r : Tally} (fit : fits p ≡ true)
     where
       go : (y : List ℕ) → step_record p r.steps u ≡ y → step_record p r.steps u ≡ []
       go [] q = q
-      go (a ∷ y) q = absurd (taken_kind u x (step_goes r.steps fit whole run.alive (λ z. let l = ap length (sym q ∙ z) in omega arith)).taken (sym kind_of ∙ e))
+      go (a ∷ y) q = absurd (taken_kind u x (step-goes r.steps fit whole run.alive (λ z. let l = ap length (sym q ∙ z) in omega arith)).taken (sym kind_of ∙ e))
 
-  pub running-ends : d.kind ≡ 0 → (u' : List ℕ) → u' ≡ after u (step_record p r.steps u) → Ran p t u' log out r
-  running-ends e u' gives =
+  pub running_ends : d.kind ≡ 0 → (u' : List ℕ) → u' ≡ after u (step_record p r.steps u) → Ran p t u' log out r
+  running_ends e u' gives =
       let z = none e in
       let same : u' ≡ u = gives ∙ ap (after u) z ∙ empty_keeps u in
       let a = run.noted_all in
@@ -118,6 +118,6 @@ module _ {p : Plan} {t log u out : List ℕ} {r : Tally} (fit : fits p ≡ true)
         tallied = a.tallied;
         taken = a.taken;
         ended = rw (← a.tables) z;
-        released = rw same (step-ends r.steps fit run.alive z);
+        released = rw same (step_ends r.steps fit run.alive z);
         most = few r.steps run.alive;
       }

@@ -18,8 +18,8 @@ use Rattle.acts.specs.First.{first_from}
 use Rattle.turns.specs.Choice.{taken_or}
 use Rattle.acts.specs.Acts.{next_act, lowest_running, act_of}
 use Rattle.turns.specs.Turn.{adopt_record, cancel_record, ask_record, deliver_record, kill_record, kill_due, repair_or, turn_record}
-use Rattle.run.proofs.Choices.{first-low, first_holds, first-none, taken_or_lem}
-use Rattle.run.proofs.Cover.{Still, none-settles}
+use Rattle.run.proofs.Choices.{first_low, first_holds, first-none, taken_or_lem}
+use Rattle.run.proofs.Cover.{Still, none_settles}
 
 pub data TurnOf (p : Plan) (t : List ℕ) : List ℕ → Type 0 where
   kills : answer t (record_of (kill p.victim)) ≡ 0 → TurnOf p t (record_of (kill p.victim))
@@ -36,7 +36,7 @@ module _ (p : Plan) (t : List ℕ) where
       let k : ℕ = first_from runs 1 made in
       cond_cases (TurnOf p t) (leb k made) (next_act p t k) []
       (λ e. let l = leb-true k made e in
-      acts still k (each_every _ (le-leb 1 k (first-low runs made 1), (e, tt))) (eqb-true (task_status t k) 5 (first_holds runs made 1 (omega arith))))
+      acts still k (each_every _ (le-leb 1 k (first_low runs made 1), (e, tt))) (eqb-true (task_status t k) 5 (first_holds runs made 1 (omega arith))))
       (λ e. let l = leb-false k made e in
       rests still (λ x m s. let r = every_each _ m in
       both (eq-eqb (task_status t x) 5 s) (first-none runs made 1 x (leb-true 1 x r.0) (omega (arith, leb-true x made r.1.0)))))
@@ -54,4 +54,4 @@ module _ (p : Plan) (t : List ℕ) where
       (λ a. taken_or_lem (TurnOf p t) t cancel_record (8 * finishes_made t) asks (λ i _ e _. settles (cancel (suc (i / 8)) (i % 8)) refl e)
       (λ b. taken_or_lem (TurnOf p t) t ask_record (64 * finishes_made t) delivers (λ i _ e _. settles (ask (suc (i / 64)) (i / 8 % 8) (i % 8)) refl e)
       (λ c. taken_or_lem (TurnOf p t) t deliver_record 128 act (λ i _ e _. settles (deliver i) refl e)
-      (λ d. act_of_lem (none-settles t a b c d))))))
+      (λ d. act_of_lem (none_settles t a b c d))))))

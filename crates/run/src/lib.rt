@@ -1,4 +1,6 @@
 // The run of a plan: the begin, then turn after turn until a turn has no step. Each step is noted: five bytes in a log, and the tally.
+#![tactic(auto)]
+
 ghost use Rattle.std.specs.Prelude.{true, [], ◌∷◌, ◌≡◌, ◌*◌, ◌≤◌, ◌<◌, eqb, length};
 ghost use Rattle.tables.specs.Bytes.{write};
 ghost use Rattle.tables.specs.Layout.{Whole};

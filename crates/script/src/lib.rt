@@ -1,4 +1,6 @@
 // The steps of the program edges, numbered from 0: those that are told, and between them those that only fill the tables.
+#![tactic(auto)]
+
 ghost use Rattle.std.specs.Prelude.{◌≤◌, ◌<◌};
 
 use tables::Tables;

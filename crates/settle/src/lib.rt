@@ -1,4 +1,6 @@
 // What a delivered message does, for the tags whose rule ends in a closing test: each answers the tag of what it sends, 0 for none.
+#![tactic(auto)]
+
 ghost use Rattle.std.specs.Prelude.{◌≡◌, ◌≤◌, ◌<◌};
 ghost use Rattle.tables.specs.Layout.{Whole};
 ghost use Rattle.rules.specs.Fields.{live};

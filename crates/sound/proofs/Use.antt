@@ -13,24 +13,24 @@ use Rattle.tables.specs.Layout.{place, task_row, finish_row, book_row}
 use Rattle.tables.proofs.Walks.{every_each, parts_at}
 use Rattle.rules.specs.Fields.{places, dead_mask, tasks_made, finishes_made, task_from, task_at, task_finish, task_status, task_sent, task_maker, home, opener, parent, finish_status, is_published, present, book_parent, adopt_due, is_adopted, task_made, finish_made}
 use Rattle.rules.specs.Messages.{Message, none, publish, published, transit, granted, denied, task, report, release, ghost_ended, count_dropped, dropped, tagged, message_in, from_slot, message_at}
-use Rattle.ranges.proofs.Tags.{below, waits_tag, moves-tag, dropped-tag}
+use Rattle.ranges.proofs.Tags.{below, waits_tag, moves_tag, dropped_tag}
 use Rattle.rules.specs.Sound.{head_sound, task_fits, finish_fits, parent_fits, book_fits, message_fits, task_sound, finish_sound, book_sound, slot_sound, tasks_sound, finishes_sound, books_sound, slots_sound, rows_sound, sound}
 
 -- a number made: 1 to n
 abbrev pub Made : ℕ → ℕ → Type 0
 Made n x = (1 ≤ x) × (x ≤ n)
 
-pub task-made : (t : List ℕ) (k : ℕ) → task_made t k ≡ true → Made (tasks_made t) k
+pub task_made_lem : (t : List ℕ) (k : ℕ) → task_made t k ≡ true → Made (tasks_made t) k
 unfolding task_made
-task-made t k e = let h = every_each _ e in (leb-true 1 k h.0, leb-true k (tasks_made t) h.1.0)
+task_made_lem t k e = let h = every_each _ e in (leb-true 1 k h.0, leb-true k (tasks_made t) h.1.0)
 
-pub finish-made : (t : List ℕ) (f : ℕ) → finish_made t f ≡ true → Made (finishes_made t) f
+pub finish_made_lem : (t : List ℕ) (f : ℕ) → finish_made t f ≡ true → Made (finishes_made t) f
 unfolding finish_made
-finish-made t f e = let h = every_each _ e in (leb-true 1 f h.0, leb-true f (finishes_made t) h.1.0)
+finish_made_lem t f e = let h = every_each _ e in (leb-true 1 f h.0, leb-true f (finishes_made t) h.1.0)
 
 -- ---- what each test tells of the numbers it is given
 record Head (ps d fs : ℕ) : Type 0 where
-  places-range : (2 ≤ ps) × (ps ≤ 8)
+  places_range : (2 ≤ ps) × (ps ≤ 8)
   finishes : fs ≤ 32
 
 head_tells : (ps d fs : ℕ) → head_sound ps d fs ≡ true → Head ps d fs
@@ -38,13 +38,13 @@ unfolding head_sound
 head_tells ps d fs e =
     let h = every_each _ e in
     record {
-      places-range = (leb-true 2 ps h.0, leb-true ps 8 h.1.0);
+      places_range = (leb-true 2 ps h.0, leb-true ps 8 h.1.0);
       finishes = leb-true fs 32 h.1.1.0;
     }
 
 -- the head test passed, as the code holds it
-pub head-finishes : (ps d fs : ℕ) (v : Bool) → v ≡ head_sound ps d fs → v ≡ true → fs ≤ 32
-head-finishes ps d fs v e z = (head_tells ps d fs (sym e ∙ z)).finishes
+pub head_finishes : (ps d fs : ℕ) (v : Bool) → v ≡ head_sound ps d fs → v ≡ true → fs ≤ 32
+head_finishes ps d fs v e z = (head_tells ps d fs (sym e ∙ z)).finishes
 
 -- ---- the rows
 -- task k
@@ -177,11 +177,11 @@ module _ (ps ts fs : ℕ) where
   unfolding tagged
   finish_named tag f k v j n counts full e =
       below tag 3 (λ h. (message_tells (publish f k) (waits_tag tag ps ts fs f k v j n counts (omega arith) (omega arith) ∙ e)).0)
-      (λ h3. below tag 7 (λ h. (message_tells (transit f k v j) (moves-tag tag ps ts fs f k v j n counts (omega arith) (omega arith) ∙ e)).0.0)
+      (λ h3. below tag 7 (λ h. (message_tells (transit f k v j) (moves_tag tag ps ts fs f k v j n counts (omega arith) (omega arith) ∙ e)).0.0)
       (λ h7. below tag 8 (λ h. let q : tag ≡ 7 = omega arith in (message_tells (report f v counts) (rw q at e)).0)
       (λ h8. below tag 9 (λ h. let q : tag ≡ 8 = omega arith in message_tells (release f) (rw q at e))
       (λ h9. below tag 10 (λ h. let q : tag ≡ 9 = omega arith in (message_tells (ghost_ended f n) (rw q at e)).0)
-      (λ h10. (message_tells (dropped f k v j n) (dropped-tag tag ps ts fs f k v j n counts (omega arith) (omega arith) ∙ e)).0)))))
+      (λ h10. (message_tells (dropped f k v j n) (dropped_tag tag ps ts fs f k v j n counts (omega arith) (omega arith) ∙ e)).0)))))
 
 -- ---- sound tables
 module _ (t : List ℕ) (s : sound t ≡ true) where
@@ -193,11 +193,11 @@ module _ (t : List ℕ) (s : sound t ≡ true) where
   unfolding sound
   rows = (every_each _ s).1.0
 
-  pub places-range : (2 ≤ places t) × (places t ≤ 8)
-  places-range = head.places-range
+  pub places_range : (2 ≤ places t) × (places t ≤ 8)
+  places_range = head.places_range
 
-  pub finishes-most : finishes_made t ≤ 32
-  finishes-most = head.finishes
+  pub finishes_most : finishes_made t ≤ 32
+  finishes_most = head.finishes
 
   pub task_ranges : (k : ℕ) → Made (tasks_made t) k → TaskRanges t k
   unfolding rows_sound tasks_sound task_sound
@@ -221,25 +221,25 @@ module _ (t : List ℕ) (s : sound t ≡ true) where
       (parts_at (book_sound (finishes_made t)) 144 1 32 2304 t (f - 1) (8 * book_row f) f (every_each _ rows).1.1.0 (omega arith) (omega arith) (omega arith)))
       there
 
-  slot-sound : (i : ℕ) → i < 128 → slot_sound (places t) (tasks_made t) (finishes_made t) (from_slot t i) i ≡ true
+  slot_sound_lem : (i : ℕ) → i < 128 → slot_sound (places t) (tasks_made t) (finishes_made t) (from_slot t i) i ≡ true
   unfolding rows_sound slots_sound from_slot
-  slot-sound i h =
+  slot_sound_lem i h =
       rw (drop-drop (16 * i) 13056 t)
       (parts_at (slot_sound (places t) (tasks_made t) (finishes_made t)) 16 0 128 13056 t i (13056 + 16 * i) i (every_each _ rows).1.1.1.0 h refl (omega arith))
 
-  pub slot-tag : (i : ℕ) → i < 128 → byte (from_slot t i) 0 ≤ 11
+  pub slot_tag : (i : ℕ) → i < 128 → byte (from_slot t i) 0 ≤ 11
   unfolding slot_sound
-  slot-tag i h = leb-true _ _ (every_each _ (slot-sound i h)).0
+  slot_tag i h = leb-true _ _ (every_each _ (slot_sound_lem i h)).0
 
-  pub slot-fits : (i : ℕ) → i < 128 → message_fits (places t) (tasks_made t) (finishes_made t) (message_at t i) ≡ true
+  pub slot_fits : (i : ℕ) → i < 128 → message_fits (places t) (tasks_made t) (finishes_made t) (message_at t i) ≡ true
   unfolding slot_sound message_at
-  slot-fits i h = (every_each _ (slot-sound i h)).1.0
+  slot_fits i h = (every_each _ (slot_sound_lem i h)).1.0
 
   pub slot_ranges : (i : ℕ) → i < 128 → Ranges (places t) (tasks_made t) (finishes_made t) (message_at t i)
-  slot_ranges i h = message_tells _ _ _ (message_at t i) (slot-fits i h)
+  slot_ranges i h = message_tells _ _ _ (message_at t i) (slot_fits i h)
 
   -- a full slot, whatever its tag
-  pub slot-finish : (i : ℕ) → i < 128 → (byte (from_slot t i) 0 ≡ 0 → ⊥) → Made (finishes_made t) (byte (from_slot t i) 1)
+  pub slot_finish : (i : ℕ) → i < 128 → (byte (from_slot t i) 0 ≡ 0 → ⊥) → Made (finishes_made t) (byte (from_slot t i) 1)
   unfolding message_at message_in
-  slot-finish i h full =
-      finish_named (places t) (tasks_made t) (finishes_made t) (byte (from_slot t i) 0) _ _ _ _ _ _ (omega (arith, slot-tag i h)) (slot-fits i h)
+  slot_finish i h full =
+      finish_named (places t) (tasks_made t) (finishes_made t) (byte (from_slot t i) 0) _ _ _ _ _ _ (omega (arith, slot_tag i h)) (slot_fits i h)

@@ -1,4 +1,6 @@
 // The sound test of document 01 over the tables: row 0, the made tasks and finishes, the present books, and the full slots by their tags.
+#![tactic(auto)]
+
 ghost use Rattle.std.specs.Prelude.{◌≡◌, ◌+◌, ◌≤◌, length, drop};
 ghost use Rattle.tables.specs.Layout.{Whole};
 ghost use Rattle.rules.specs.Sound.{task_sound, finish_sound, book_sound, slot_sound, tasks_sound, finishes_sound, books_sound, slots_sound, rows_sound, sound};

@@ -1,4 +1,6 @@
 // The step spawn: a task blocks, and the task that it makes is on its way to another place.
+#![tactic(auto)]
+
 ghost use Rattle.std.specs.Prelude.{◌≡◌, [], ◌∷◌, ◌<◌, eqb};
 ghost use Rattle.tables.specs.Layout.{Whole};
 ghost use Rattle.tables.specs.Walks.{every};

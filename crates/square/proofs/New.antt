@@ -15,9 +15,9 @@ new_book_lem b u h q l e =
     ap (λ (r : List ℕ). set (set (set (set r 0 1) 1 q) (8 + 8 * h + h) 1) (72 + 8 * h + h) 1) z
     ∙ ap (λ (r : List ℕ). set (set r (8 + 8 * h + h) 1) (72 + 8 * h + h) 1) (sym (write-sets (1 ∷ q ∷ []) (replicate 144 0) 0))
 
-pub new_length : (h q : ℕ) → length (new_book h q) ≡ 144
+pub new-length : (h q : ℕ) → length (new_book h q) ≡ 144
 unfolding new_book
-new_length h q =
+new-length h q =
     let n : List ℕ = write (replicate 144 0) 0 (1 ∷ q ∷ []) in
     length-set (set n (8 + 8 * h + h) 1) (72 + 8 * h + h) 1 ∙ length-set n (8 + 8 * h + h) 1
     ∙ length-write (1 ∷ q ∷ []) (replicate 144 0) 0 ∙ length-replicate {A = ℕ} 144 0

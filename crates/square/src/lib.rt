@@ -1,4 +1,6 @@
 // One store book, a part of 144 bytes: its live counts as a square by value, the sums and tests of it, and its columns written.
+#![tactic(auto)]
+
 ghost use Rattle.std.specs.Prelude.{◌≡◌, ◌+◌, ◌*◌, ◌≤◌, ◌<◌, leb, length};
 ghost use Rattle.tables.specs.Bytes.{byte, part, write};
 ghost use Rattle.tables.specs.Walks.{sum_bytes};

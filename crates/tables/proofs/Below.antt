@@ -30,6 +30,6 @@ pub some_done : (p : ℕ → Bool) (n : ℕ) (all : Bool) → n ≤ 0 → some_b
 unfolding some_below
 some_done p n all h inv = let e : n ≡ 0 = omega arith in sym (ap (some_below p) e) ∙ inv
 
-pub every-done : (p : ℕ → Bool) (n : ℕ) (all : Bool) → n ≤ 0 → every_below p n ≡ all → true ≡ all
+pub every_done : (p : ℕ → Bool) (n : ℕ) (all : Bool) → n ≤ 0 → every_below p n ≡ all → true ≡ all
 unfolding every_below
-every-done p n all h inv = let e : n ≡ 0 = omega arith in sym (ap (every_below p) e) ∙ inv
+every_done p n all h inv = let e : n ≡ 0 = omega arith in sym (ap (every_below p) e) ∙ inv

@@ -57,13 +57,13 @@ no_bits (suc n) m l h =
     omega arith
 
 -- ---- marks
-pub marked-low : (m j : ℕ) → j < 8 → marked m j ≡ bit_at m j
+pub marked_low : (m j : ℕ) → j < 8 → marked m j ≡ bit_at m j
 unfolding marked
-marked-low m j h = rw (lt-ltb j 8 h)
+marked_low m j h = rw (lt-ltb j 8 h)
 
-pub marked-high : (m j : ℕ) → 8 ≤ j → marked m j ≡ false
+pub marked_high : (m j : ℕ) → 8 ≤ j → marked m j ≡ false
 unfolding marked
-marked-high m j h = rw (le-ltb j 8 h)
+marked_high m j h = rw (le-ltb j 8 h)
 
 by_range : {P : Type 0} (j : ℕ) → (j < 8 → P) → (8 ≤ j → P) → P
 by_range {P} j low high = go (ltb j 8) refl
@@ -76,14 +76,14 @@ by_range {P} j low high = go (ltb j 8) refl
 pub with_mark_lem : (m k j : ℕ) → k < 8 → marked (with_mark m k) j ≡ (eqb j k || marked m j)
 unfolding with_mark
 with_mark_lem m k j h = by_range j
-    (λ l. rw (marked-low (with_mark m k) j l, marked-low m j l) (bit_mask 8 (λ j. eqb j k || bit_at m j) j l))
-    (λ g. rw (marked-high (with_mark m k) j g, marked-high m j g, ne_eqb j k (λ q. omega arith)) refl)
+    (λ l. rw (marked_low (with_mark m k) j l, marked_low m j l) (bit_mask 8 (λ j. eqb j k || bit_at m j) j l))
+    (λ g. rw (marked_high (with_mark m k) j g, marked_high m j g, ne_eqb j k (λ q. omega arith)) refl)
 
 pub without_mark_lem : (m k j : ℕ) → marked (without_mark m k) j ≡ (not (eqb j k) && marked m j)
 unfolding without_mark
 without_mark_lem m k j = by_range j
-    (λ l. rw (marked-low (without_mark m k) j l, marked-low m j l) (bit_mask 8 (λ j. not (eqb j k) && bit_at m j) j l))
-    (λ g. rw (marked-high (without_mark m k) j g, marked-high m j g) (sym (and-false (not (eqb j k)))))
+    (λ l. rw (marked_low (without_mark m k) j l, marked_low m j l) (bit_mask 8 (λ j. not (eqb j k) && bit_at m j) j l))
+    (λ g. rw (marked_high (without_mark m k) j g, marked_high m j g) (sym (and-false (not (eqb j k)))))
 
 -- ---- as code does it
 pub bit_shift : (j m : ℕ) → bit_at m j ≡ eqb ((m / 2 ^ j) % 2) 1

@@ -24,8 +24,8 @@ abbrev pub Keeps : (List ℕ → ℕ → List ℕ) → ℕ → Type 0
 Keeps g w = (m : List ℕ) (i : ℕ) → length m ≡ w → length (g m i) ≡ w
 
 module _ (g : List ℕ → ℕ → List ℕ) (w : ℕ) (keeps : Keeps g w) where
-  new_length : (i : ℕ) (m : List ℕ) → w ≤ length m → length (g (take w m) i) ≡ w
-  new_length i m h = keeps (take w m) i (length-take-le w m h)
+  new-length : (i : ℕ) (m : List ℕ) → w ≤ length m → length (g (take w m) i) ≡ w
+  new-length i m h = keeps (take w m) i (length-take-le w m h)
 
   -- one part more is one write more
   each_turn : (n i : ℕ) (m : List ℕ) → w * suc n ≤ length m
@@ -33,12 +33,12 @@ module _ (g : List ℕ → ℕ → List ℕ) (w : ℕ) (keeps : Keeps g w) where
   unfolding each_part
   each_turn zero i m h =
       let hw : w ≤ length m = omega (arith, mul-suc w 0, mul-zero w) in
-      let e : length (g (take w m) i) ≡ w = new_length i m hw in
+      let e : length (g (take w m) i) ≡ w = new-length i m hw in
       let z : 0 + length (g (take w m) i) ≡ w = omega arith in
       rw (mul-zero w, add-zero i) (sym (write_mid (g (take w m) i) m 0 (omega arith) ∙ ap (λ (k : ℕ). g (take w m) i ++ drop k m) z))
   each_turn (suc n) i m h =
       let hw : w ≤ length m = omega (arith, mul-suc w (suc n)) in
-      let e : length (g (take w m) i) ≡ w = new_length i m hw in
+      let e : length (g (take w m) i) ≡ w = new-length i m hw in
       let hm : w * suc n ≤ length (drop w m) = rw (length-drop w m) (omega (arith, mul-suc w (suc n))) in
       let y : w + w * n ≡ w * suc n = omega (arith, mul-suc w n) in
       let z : length (g (take w m) i) + w * n ≡ w * suc n = omega arith in
@@ -53,7 +53,7 @@ module _ (g : List ℕ → ℕ → List ℕ) (w : ℕ) (keeps : Keeps g w) where
   each_rest zero i m h = refl
   each_rest (suc n) i m h =
       let hw : w ≤ length m = omega (arith, mul-suc w n) in
-      let e : length (g (take w m) i) ≡ w = new_length i m hw in
+      let e : length (g (take w m) i) ≡ w = new-length i m hw in
       let hm : w * n ≤ length (drop w m) = rw (length-drop w m) (omega (arith, mul-suc w n)) in
       let y : w + w * n ≡ w * suc n = omega (arith, mul-suc w n) in
       let z : w * suc n ≡ length (g (take w m) i) + w * n = omega arith in
@@ -69,7 +69,7 @@ module _ (g : List ℕ → ℕ → List ℕ) (w : ℕ) (keeps : Keeps g w) where
       let hw : w ≤ length m = omega (arith, mul-suc w n) in
       let hm : w * n ≤ length (drop w m) = rw (length-drop w m) (omega (arith, mul-suc w n)) in
       length-append (g (take w m) i) (each_part g w (suc i) n (drop w m))
-      ∙ omega (arith, new_length i m hw, each_length n (suc i) (drop w m) hm, length-drop w m)
+      ∙ omega (arith, new-length i m hw, each_length n (suc i) (drop w m) hm, length-drop w m)
 
   pub length_change : (n i k : ℕ) (t : List ℕ) → k + w * n ≤ length t → length (change_parts g w i n k t) ≡ length t
   unfolding change_parts
@@ -108,11 +108,11 @@ module _ (g : List ℕ → ℕ → List ℕ) (w : ℕ) (keeps : Keeps g w) where
   unfolding each_part
   each_in zero i y j m a b h = absurd (omega arith)
   each_in (suc n) i zero j m a b h =
-      let e : length (g (take w m) i) ≡ w = new_length i m (omega (arith, mul-suc w n)) in
+      let e : length (g (take w m) i) ≡ w = new-length i m (omega (arith, mul-suc w n)) in
       let z : w * 0 + j ≡ j = omega (arith, mul-zero w) in
       rw (z, mul-zero w, add-zero i) (get_or-append (g (take w m) i) (each_part g w (suc i) n (drop w m)) 0 j (omega arith))
   each_in (suc n) i (suc y) j m a b h =
-      let e : length (g (take w m) i) ≡ w = new_length i m (omega (arith, mul-suc w n)) in
+      let e : length (g (take w m) i) ≡ w = new-length i m (omega (arith, mul-suc w n)) in
       let hm : w * n ≤ length (drop w m) = rw (length-drop w m) (omega (arith, mul-suc w n)) in
       let z : w * suc y + j ≡ length (g (take w m) i) + (w * y + j) = omega (arith, mul-suc w y) in
       let v : w * suc y ≡ w + w * y = omega (arith, mul-suc w y) in

@@ -11,11 +11,11 @@ use lib.ListN.{set, length, drop, take, replicate, length-drop, length-replicate
 use lib.Seq.{sets, sets-eq, length-sets, paste, paste-suc, take_all, drop-drop, get_or-drop, get_or-take, length-take-le}
 use Rattle.tables.specs.Bytes.{byte, part, over, write}
 
-pub write-end : (t vs : List ℕ) → write t 0 vs ≡ over vs t
+pub write_end : (t vs : List ℕ) → write t 0 vs ≡ over vs t
 unfolding write over
-write-end [] [] = refl
-write-end [] (v ∷ vs) = refl
-write-end (x ∷ t) vs = refl
+write_end [] [] = refl
+write_end [] (v ∷ vs) = refl
+write_end (x ∷ t) vs = refl
 
 write-none : (t : List ℕ) (k : ℕ) → write t k [] ≡ t
 unfolding write over
@@ -26,7 +26,7 @@ write-none (x ∷ t) (suc k) = ap (λ (r : List ℕ). x ∷ r) (write-none t k)
 write-first : (t : List ℕ) (k v : ℕ) (vs : List ℕ) → write t k (v ∷ vs) ≡ write (set t k v) (suc k) vs
 unfolding write over
 write-first [] k v vs = refl
-write-first (x ∷ t) zero v vs = ap (λ (r : List ℕ). v ∷ r) (sym (write-end t vs))
+write-first (x ∷ t) zero v vs = ap (λ (r : List ℕ). v ∷ r) (sym (write_end t vs))
 write-first (x ∷ t) (suc k) v vs = ap (λ (r : List ℕ). x ∷ r) (write-first t k v vs)
 
 -- bytes written at once are a run of stores
@@ -38,8 +38,8 @@ pub length-write : (vs t : List ℕ) (k : ℕ) → length (write t k vs) ≡ len
 length-write vs t k = ap length (write-sets vs t k) ∙ length-sets t k vs
 
 -- a store is one byte written
-pub write-one : (t : List ℕ) (k v : ℕ) → set t k v ≡ write t k (v ∷ [])
-write-one t k v = sym (write-first t k v [] ∙ write-none (set t k v) (suc k))
+pub write_one : (t : List ℕ) (k v : ℕ) → set t k v ≡ write t k (v ∷ [])
+write_one t k v = sym (write-first t k v [] ∙ write-none (set t k v) (suc k))
 
 -- bytes written after bytes written
 sets-after : (vs t : List ℕ) (k : ℕ) (us : List ℕ) → sets (sets t k vs) (k + length vs) us ≡ sets t k (vs ++ us)

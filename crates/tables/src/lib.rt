@@ -1,4 +1,6 @@
 // The session tables as bytes that the caller lends: the numbers and places of the table kind; rows, parts and marks read and written.
+#![tactic(auto)]
+
 ghost use Rattle.std.specs.Prelude.{◌≡◌, ◌+◌, ◌-◌, ◌*◌, ◌≤◌, ◌<◌, length, replicate};
 ghost use Rattle.tables.specs.Bytes.{part, write};
 ghost use Rattle.tables.specs.Bits.{marked, with_mark, without_mark};

@@ -16,7 +16,7 @@ use Rattle.rules.specs.Deliver.{discarded, waits_for_repair, held, fits, deliver
 use Rattle.rules.specs.Refusals.{first_of}
 use Rattle.rules.specs.Sent.{reply_sent}
 use Rattle.wanted.specs.Says.{deliver_says}
-use Rattle.sound.proofs.Use.{Ranges, places-range, finishes-most, finish_ranges, slot_ranges}
+use Rattle.sound.proofs.Use.{Ranges, places_range, finishes_most, finish_ranges, slot_ranges}
 
 -- the message that each tag names; `rest` is what a match on the tag knows in its last arm
 module _ (tag f k v j n : ℕ) (cs : List ℕ) where
@@ -64,10 +64,10 @@ module _ (tag f k v j n : ℕ) (cs : List ℕ) where
   unfolding tagged
   tag_11 e = rw e refl
 
-  pub tag-rest : (((((((((((Unit {0} × (tag ≡ 1 → ⊥)) × (tag ≡ 2 → ⊥)) × (tag ≡ 3 → ⊥)) × (tag ≡ 4 → ⊥)) × (tag ≡ 5 → ⊥)) × (tag ≡ 6 → ⊥)) × (tag ≡ 7 → ⊥)) × (tag ≡ 8 → ⊥)) × (tag ≡ 9 → ⊥)) × (tag ≡ 10 → ⊥)) × (tag ≡ 11 → ⊥))
+  pub tag_rest : (((((((((((Unit {0} × (tag ≡ 1 → ⊥)) × (tag ≡ 2 → ⊥)) × (tag ≡ 3 → ⊥)) × (tag ≡ 4 → ⊥)) × (tag ≡ 5 → ⊥)) × (tag ≡ 6 → ⊥)) × (tag ≡ 7 → ⊥)) × (tag ≡ 8 → ⊥)) × (tag ≡ 9 → ⊥)) × (tag ≡ 10 → ⊥)) × (tag ≡ 11 → ⊥))
       → tagged tag f k v j n cs ≡ none
   unfolding tagged
-  tag-rest r =
+  tag_rest r =
       rw (
         ne_eqb tag 1 r.0.0.0.0.0.0.0.0.0.0.1,
         ne_eqb tag 2 r.0.0.0.0.0.0.0.0.0.1,
@@ -110,7 +110,7 @@ module _ (t : List ℕ) (s : ℕ) (ok : (sound t ≡ true) × (s < 128)) where
   ranges_of x e = subst (Ranges (places t) (tasks_made t) (finishes_made t)) e (slot_ranges t ok.0 s ok.1)
 
   few : (places t ≤ 8) × (finishes_made t ≤ 32)
-  few = ((places-range t ok.0).1, finishes-most t ok.0)
+  few = ((places_range t ok.0).1, finishes_most t ok.0)
 
   finish_in : (f : ℕ) → (1 ≤ f) × (f ≤ finishes_made t) → (1 ≤ f) × (f ≤ 32)
   finish_in f made = (made.0, omega (arith, made.1, few.1))
@@ -118,14 +118,14 @@ module _ (t : List ℕ) (s : ℕ) (ok : (sound t ≡ true) × (s < 128)) where
   places_in : (v j : ℕ) → (v < places t) × (j < places t) → (v < 8) × (j < 8)
   places_in v j h = (omega (arith, h.0, few.0), omega (arith, h.1, few.0))
 
-  pub publish-range : (f k : ℕ) → message_at t s ≡ publish f k → (1 ≤ f) × (f ≤ finishes_made t)
-  publish-range f k e = (ranges_of (publish f k) e).0
+  pub publish_range : (f k : ℕ) → message_at t s ≡ publish f k → (1 ≤ f) × (f ≤ finishes_made t)
+  publish_range f k e = (ranges_of (publish f k) e).0
 
   pub publish_in : (f k : ℕ) → message_at t s ≡ publish f k → (1 ≤ f) × (f ≤ 32)
-  publish_in f k e = finish_in f (publish-range f k e)
+  publish_in f k e = finish_in f (publish_range f k e)
 
   pub publish-home : (f k : ℕ) → message_at t s ≡ publish f k → home t f < 8
-  publish-home f k e = omega (arith, (finish_ranges t ok.0 f (publish-range f k e)).home-place, few.0)
+  publish-home f k e = omega (arith, (finish_ranges t ok.0 f (publish_range f k e)).home-place, few.0)
 
   pub transit_in : (f k v j : ℕ) → message_at t s ≡ transit f k v j → ((1 ≤ f) × (f ≤ 32)) × ((v < 8) × (j < 8))
   transit_in f k v j e = let r = ranges_of (transit f k v j) e in (finish_in f r.0.0, places_in v j r.1)

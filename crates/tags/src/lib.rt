@@ -1,4 +1,6 @@
 // The message of a slot, by its tag: what refuses it, whether it is discarded, and what it does.
+#![tactic(auto)]
+
 ghost use Rattle.std.specs.Prelude.{◌≡◌, true, [], ◌∷◌, ◌≤◌, ◌<◌};
 ghost use Rattle.tables.specs.Walks.{some_of};
 ghost use Rattle.tables.specs.Layout.{Whole};

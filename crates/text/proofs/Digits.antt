@@ -7,18 +7,18 @@ use native.Mathlib.Omega.{arith}
 use borrow.Author.Tests.{lt-ltb, le-ltb}
 use lib.ListN.{length, set, length-append}
 use Rattle.tables.specs.Bytes.{write}
-use Rattle.tables.proofs.Writes.{write-one, write-after}
+use Rattle.tables.proofs.Writes.{write_one, write-after}
 use Rattle.text.specs.Decimal.{decimal}
 
 -- the bytes written and one stored behind them
 pub write_last : (t : List ℕ) (k : ℕ) (D : List ℕ) (x : ℕ) → set (write t k D) (k + length D) x ≡ write t k (D ++ (x ∷ []))
-write_last t k D x = write-one (write t k D) (k + length D) x ∙ write-after D t k (x ∷ [])
+write_last t k D x = write_one (write t k D) (k + length D) x ∙ write-after D t k (x ∷ [])
 
 -- ---- the number's own digits
-one-digit : (room n : ℕ) → 1 ≤ room → n < 10 → decimal room n ≡ (48 + n) ∷ []
+one_digit : (room n : ℕ) → 1 ≤ room → n < 10 → decimal room n ≡ (48 + n) ∷ []
 unfolding decimal
-one-digit zero n h l = absurd (omega arith)
-one-digit (suc room) n h l = rw (lt-ltb n 10 l) refl
+one_digit zero n h l = absurd (omega arith)
+one_digit (suc room) n h l = rw (lt-ltb n 10 l) refl
 
 more_digits : (room n : ℕ) → 1 ≤ room → 10 ≤ n → decimal room n ≡ decimal (room - 1) (n / 10) ++ ((48 + n % 10) ∷ [])
 unfolding decimal
@@ -38,10 +38,10 @@ room_falls (suc (suc room)) n h l =
 
 -- ---- one digit stored
 pub put_one : (t : List ℕ) (at n room : ℕ) → 1 ≤ room → n < 10 → set t at (48 + n) ≡ write t at (decimal room n)
-put_one t at n room h l = write-one t at (48 + n) ∙ ap (write t at) (sym (one-digit room n h l))
+put_one t at n room h l = write_one t at (48 + n) ∙ ap (write t at) (sym (one_digit room n h l))
 
-pub end-one : (at n room : ℕ) → 1 ≤ room → n < 10 → at + 1 ≡ at + length (decimal room n)
-end-one at n room h l = rw (one-digit room n h l) refl
+pub end_one : (at n room : ℕ) → 1 ≤ room → n < 10 → at + 1 ≡ at + length (decimal room n)
+end_one at n room h l = rw (one_digit room n h l) refl
 
 -- the last digit stored behind the others
 pub put_more : (t₀ t : List ℕ) (at n room e : ℕ) → 1 ≤ room → 10 ≤ n → t ≡ write t₀ at (decimal (room - 1) (n / 10)) → e ≡ at + length (decimal (room - 1) (n / 10))

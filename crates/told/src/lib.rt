@@ -1,5 +1,7 @@
 // How the program edges tells its steps, a line each: the record, the answer, and whether the tables are what they were before the
 // step; then tasks made, finishes made, messages in flight, the tags in slots 0 and 77, and the statuses of tasks 1 and 2.
+#![tactic(auto)]
+
 ghost use Rattle.std.specs.Prelude.{◌≤◌, ◌<◌};
 
 use libc::STDOUT_FILENO;

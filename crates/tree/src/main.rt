@@ -1,4 +1,6 @@
 // The driver that grows whole trees: a line of standard input names a plan; its run is printed step by step, then the tally.
+#![tactic(auto)]
+
 ghost use Rattle.std.specs.Prelude.{true, ◌≡◌};
 ghost use Rattle.plan.specs.Plan.{fits};
 

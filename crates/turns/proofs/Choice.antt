@@ -41,31 +41,31 @@ module _ (f : List ℕ → List ℕ) where
   taken-over (takes e h) z o = e o
 
 -- ---- a record that is not taken changes nothing; the empty one is not
-pub refused-keeps : (t r : List ℕ) → (answer t r ≡ 0 → ⊥) → after t r ≡ t
+pub refused_keeps : (t r : List ℕ) → (answer t r ≡ 0 → ⊥) → after t r ≡ t
 unfolding after
-refused-keeps t r h = rw (ne_eqb (answer t r) 0 h)
+refused_keeps t r h = rw (ne_eqb (answer t r) 0 h)
 
-pub empty_refused : (t : List ℕ) → answer t [] ≡ 7
+pub empty-refused : (t : List ℕ) → answer t [] ≡ 7
 unfolding answer refusals first_of wrong_length some_of
-empty_refused t = rw (either (not (eqb (length t) 15104)))
+empty-refused t = rw (either (not (eqb (length t) 15104)))
   where
     either : (b : Bool) → cond b true true ≡ true
     either true = refl
     either false = refl
 
-pub empty_played : (t : List ℕ) → played_on t [] ≡ no_step
+pub empty-played : (t : List ℕ) → played_on t [] ≡ no_step
 unfolding played_on no_step
-empty_played t = rw (empty_refused t)
+empty-played t = rw (empty-refused t)
 
 pub empty_keeps : (t : List ℕ) → after t [] ≡ t
-empty_keeps t = refused-keeps t [] (λ e. let z = empty_refused t in omega arith)
+empty_keeps t = refused_keeps t [] (λ e. let z = empty-refused t in omega arith)
 
 -- ---- what a function gives that plays the record r on the tables t: x, and the tables u
 abbrev pub Plays : List ℕ → List ℕ → Played → List ℕ → Type 0
 Plays t r x u = (x ≡ played_on t r) × (u ≡ after t r)
 
 pub no_play : (t u : List ℕ) (x : Played) → u ≡ t → x ≡ no_step → Plays t [] x u
-no_play t u x same none = (none ∙ sym (empty_played t), same ∙ sym (empty_keeps t))
+no_play t u x same none = (none ∙ sym (empty-played t), same ∙ sym (empty_keeps t))
 
 module _ (t : List ℕ) (f : List ℕ → List ℕ) (chooses : Choosing f) (x : Played) (u : List ℕ) (plays : Plays t (f []) x u) where
   kind_is : byte (f []) 0 ≡ x.kind

@@ -17,7 +17,7 @@ use Rattle.acts.specs.Acts.{spawns_more, next_act, lowest_running, act_of}
 use Rattle.turns.specs.Turn.{kill_record, kill_due, repair_or}
 use Rattle.turns.specs.Numbered.{records_of}
 use Rattle.turns.specs.Played.{played_on, no_step}
-use Rattle.turns.proofs.Choice.{Choosing, choose_if, choose_then, refused-keeps, Plays, no_play}
+use Rattle.turns.proofs.Choice.{Choosing, choose_if, choose_then, refused_keeps, Plays, no_play}
 use Rattle.turns.proofs.Taken.{else_chooses}
 use Rattle.turns.proofs.Records.{not_none}
 
@@ -45,22 +45,22 @@ module _ (p : Plan) (n : ℕ) (t : List ℕ) where
   abbrev kill : List ℕ
   kill = cond (kill_due p n t) (kill_record p) []
 
-  not-due : (x : Played) (u : List ℕ) → kill_due p n t ≡ false → u ≡ t → x ≡ no_step → Plays t kill x u
-  not-due x u e same none = rw e (no_play t u x same none)
+  not_due : (x : Played) (u : List ℕ) → kill_due p n t ≡ false → u ≡ t → x ≡ no_step → Plays t kill x u
+  not_due x u e same none = rw e (no_play t u x same none)
 
   pub kill-none : (x : Played) → x ≡ no_step → p.killstep < 1 → Plays t kill x t
   unfolding kill_due every
-  kill-none x none h = not-due x t (rw (lt-leb 1 p.killstep h) refl) refl none
+  kill-none x none h = not_due x t (rw (lt-leb 1 p.killstep h) refl) refl none
 
   module _ (some : 1 ≤ p.killstep) where
     pub kill_early : (x : Played) → x ≡ no_step → n < p.killstep → Plays t kill x t
     unfolding kill_due every
-    kill_early x none h = not-due x t (rw (le-leb 1 p.killstep some, lt-leb p.killstep n h) refl) refl none
+    kill_early x none h = not_due x t (rw (le-leb 1 p.killstep some, lt-leb p.killstep n h) refl) refl none
 
     module _ (h : p.killstep ≤ n) where
       pub kill_spared : (x : Played) → x ≡ no_step → p.victim < 1 → Plays t kill x t
       unfolding kill_due every
-      kill_spared x none v = not-due x t (rw (le-leb 1 p.killstep some, le-leb p.killstep n h, lt-leb 1 p.victim v) refl) refl none
+      kill_spared x none v = not_due x t (rw (le-leb 1 p.killstep some, le-leb p.killstep n h, lt-leb 1 p.victim v) refl) refl none
 
       -- it is tried
       module _ (v : 1 ≤ p.victim) (y : Played) (u : List ℕ) (plays : Plays t (5 ∷ p.victim ∷ 0 ∷ 0 ∷ []) y u) where
@@ -76,7 +76,7 @@ module _ (p : Plan) (n : ℕ) (t : List ℕ) where
         unfolding kill_record
         kill-refused x none z =
             let no : answer t (kill_record p) ≡ 0 → ⊥ = λ e. z (kill-answer ∙ e) in
-            not-due x u (tried ∙ ne_eqb (answer t (kill_record p)) 0 no) (plays.1 ∙ refused-keeps t (kill_record p) no) none
+            not_due x u (tried ∙ ne_eqb (answer t (kill_record p)) 0 no) (plays.1 ∙ refused_keeps t (kill_record p) no) none
 
         pub kill-taken : y.answer ≡ 0 → Plays t kill y u
         unfolding kill_record
@@ -85,13 +85,13 @@ module _ (p : Plan) (n : ℕ) (t : List ℕ) where
 -- ---- the lowest running task's next act
 module _ (p : Plan) (t : List ℕ) (x : Played) (u : List ℕ) where
   module _ (k : ℕ) (v : Bool) (e : v ≡ spawns_more p t k) where
-    pub act-spawns : (at to : ℕ) → v ≡ true → at ≡ task_at t k → to ≡ (at + 1) % p.places → Plays t (1 ∷ k ∷ to ∷ 0 ∷ []) x u → Plays t (next_act p t k) x u
+    pub act_spawns : (at to : ℕ) → v ≡ true → at ≡ task_at t k → to ≡ (at + 1) % p.places → Plays t (1 ∷ k ∷ to ∷ 0 ∷ []) x u → Plays t (next_act p t k) x u
     unfolding next_act
-    act-spawns at to h place next plays = rw (sym e ∙ h, ← place, ← next) plays
+    act_spawns at to h place next plays = rw (sym e ∙ h, ← place, ← next) plays
 
-    pub act-ends : v ≡ false → Plays t (3 ∷ k ∷ 0 ∷ 0 ∷ []) x u → Plays t (next_act p t k) x u
+    pub act_ends : v ≡ false → Plays t (3 ∷ k ∷ 0 ∷ 0 ∷ []) x u → Plays t (next_act p t k) x u
     unfolding next_act
-    act-ends h plays = rw (sym e ∙ h) plays
+    act_ends h plays = rw (sym e ∙ h) plays
 
   module _ (k n : ℕ) (lowest : k ≡ lowest_running t) (made : n ≡ tasks_made t) where
     pub act-none : n < k → u ≡ t → x ≡ no_step → Plays t (act_of p t) x u

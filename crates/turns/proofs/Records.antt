@@ -28,9 +28,9 @@ module _ (i : ℕ) where
     unfolding records_of ask_record
     is_ask = let e : 1 + i / 64 ≡ suc (i / 64) = omega arith in rw (ne_eqb kind 4 d, ne_eqb kind 6 a, ne_eqb kind 7 c, e)
 
-    pub ask-most : i < most_of kind → i < 16320
+    pub ask_most : i < most_of kind → i < 16320
     unfolding most_of
-    ask-most h = rw (ne_eqb kind 4 d, ne_eqb kind 6 a, ne_eqb kind 7 c) at h
+    ask_most h = rw (ne_eqb kind 4 d, ne_eqb kind 6 a, ne_eqb kind 7 c) at h
 
 -- the records of a kind have it
 pub not_none : (kind i : ℕ) → byte (records_of kind i) 0 ≡ 0 → ⊥

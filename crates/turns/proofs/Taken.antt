@@ -13,7 +13,7 @@ use Rattle.turns.specs.declared.Played.{Played}
 use Rattle.turns.specs.Choice.{first_taken, taken_or}
 use Rattle.turns.specs.Played.{played_on, no_step}
 use Rattle.acts.proofs.Search.{search_left, search_none, search_pass, search_stop, search_done}
-use Rattle.turns.proofs.Choice.{Choosing, choose_if, refused-keeps, Plays, no_play}
+use Rattle.turns.proofs.Choice.{Choosing, choose_if, refused_keeps, Plays, no_play}
 
 module _ (t : List ℕ) (records : ℕ → List ℕ) where
   abbrev test : ℕ → Bool
@@ -41,9 +41,9 @@ module _ (t : List ℕ) (records : ℕ → List ℕ) where
           let q : first_taken t records n ≡ i = sym (search_stop test 0 n i _ h (rw e (eq-eqb (answer t (records i)) 0 z)) inv) ∙ e in
           rw (q, lt-ltb i n h)
 
-      taken-done : n ≤ i → i ≤ n → (o : List ℕ) → taken_or t records n o ≡ o
+      taken_done : n ≤ i → i ≤ n → (o : List ℕ) → taken_or t records n o ≡ o
       unfolding taken_left taken_or
-      taken-done h l o =
+      taken_done h l o =
           let q : first_taken t records n ≡ n = sym (search_done test 0 n i _ h l inv) ∙ zero-add n in
           rw (q, le-ltb n n (omega arith))
 
@@ -67,8 +67,8 @@ module _ (t : List ℕ) (records : ℕ → List ℕ) (n i : ℕ) (inv : taken_le
     pub try_pass : (x.answer ≡ 0 → ⊥) → (u ≡ t) × (taken_left t records n (i + 1) ≡ first_taken t records n)
     try_pass z =
         let no : answer t (records i) ≡ 0 → ⊥ = λ e. z (tried_answer ∙ e) in
-        (tried.1 ∙ refused-keeps t (records i) no, taken_pass t records n i inv h no)
+        (tried.1 ∙ refused_keeps t (records i) no, taken_pass t records n i inv h no)
 
   -- all are refused
   pub try_done : n ≤ i → i ≤ n → x ≡ no_step → Plays t (taken_or t records n []) x s
-  try_done h l none = rw (taken-done t records n i inv h l []) (no_play t s x same none)
+  try_done h l none = rw (taken_done t records n i inv h l []) (no_play t s x same none)

@@ -1,5 +1,7 @@
 // A turn of the driver that grows whole trees: the next record is chosen and played. To try a record is to play it, since a refused
 // record leaves every byte: a search plays one record after the other until one is taken.
+#![tactic(auto)]
+
 ghost use Rattle.std.specs.Prelude.{cond, [], ◌≡◌, ◌≤◌, ◌<◌};
 ghost use Rattle.tables.specs.Layout.{Whole};
 ghost use Rattle.rules.specs.Step.{after};

@@ -1,4 +1,6 @@
 // What refuses the deliver of a message: held (5), or a status or a count that is wanted and not found (9); tag by tag.
+#![tactic(auto)]
+
 ghost use Rattle.std.specs.Prelude.{◌≡◌, ◌≤◌, ◌<◌, eqb, leb};
 ghost use Rattle.tables.specs.Layout.{Whole};
 ghost use Rattle.rules.specs.Fields.{task_maker, opener, finish_status, live, sent_count, received, local_live, may_run};

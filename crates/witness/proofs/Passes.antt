@@ -10,7 +10,7 @@ use Rattle.rules.specs.Action.{action_of}
 use Rattle.rules.specs.Refusals.{answer}
 use Rattle.rules.specs.Step.{step, after}
 use Rattle.rules.specs.Sessions.{played}
-use Rattle.rules.proofs.Unique.{after-done}
+use Rattle.rules.proofs.Unique.{after_done}
 use Rattle.witness.specs.Schedule.{all_taken}
 
 -- the records are taken one after the other, and the test holds of the tables after the last
@@ -31,7 +31,7 @@ went t (r ∷ rs) test h = go (eqb (answer t r) 0) refl h (went u rs test)
 
     go : (v : Bool) → eqb (answer t r) 0 ≡ v → elim v [ true ↦ goes u rs test | false ↦ false ] ≡ true → (goes u rs test ≡ true → Went u rs test)
         → Went t (r ∷ rs) test
-    go true e q shows = rw (after-done t r (eqb-true (answer t r) 0 e), e) (shows q)
+    go true e q shows = rw (after_done t r (eqb-true (answer t r) 0 e), e) (shows q)
     go false e q shows = absurd (false≢true q)
 
 played-append : (t : List ℕ) (xs ys : List (List ℕ)) → played t (xs ++ ys) ≡ played (played t xs) ys

@@ -84,7 +84,7 @@ pub record Witness : Type 0 where
   pub adopted : is_adopted (at ghosted) 2 ≡ 1
   pub is_ghost_lem : ghost_byte (at ghosted) 1 0 ≡ 2
   pub reply : byte (at replied) (place (slot_row 0) 0) ≡ 11
-  pub reply-says : byte (at replied) (place (slot_row 0) 5) ≡ 1
+  pub reply_says : byte (at replied) (place (slot_row 0) 5) ≡ 1
   pub calm : quiet (at calmed) ≡ true
   pub open_1 : is_open (at calmed) 1 ≡ true
   pub open_2 : is_open (at calmed) 2 ≡ true

@@ -2,7 +2,7 @@ use Prim.Native.Nat.{◌≤◌, ◌-◌}
 use mathlib.Core.Path.{◌≡◌}
 use Rattle.acts.specs.Acts.{spawner}
 use Rattle.plan.specs.Tree.{level_of}
-use Rattle.acts.proofs.Acts.{level_left, level-none, level_pass, level_stop, level-done}
+use Rattle.acts.proofs.Acts.{level_left, level_none, level_pass, level_stop, level_done}
 use borrow.Author.Rules.{rules}
 use Rattle.acts.proofs.level_of.Statement.{statement}
 use Rattle.acts.proofs.level_of.Tie as tie
@@ -14,7 +14,7 @@ abbrev decreases-loop : tie.decreases-loop
 decreases-loop t n k above₀ up₀ above up = n - up
 
 loop-holds : tie.Need-loop-init invariant-loop decreases-loop
-loop-holds c = (search rules, level-none _ _ _)
+loop-holds c = (search rules, level_none _ _ _)
 
 returns : tie.Need-returns invariant-loop decreases-loop
 returns c = level_stop _ _ _ _ _ c.before.before.before.loop.invariant.1 _ c.before.before.loop-test.true c.before.task-byte.ensures c.if1.true
@@ -23,7 +23,7 @@ loop-again : tie.Need-loop-preserved invariant-loop decreases-loop
 loop-again c = (search rules, level_pass _ _ _ _ _ c.before.before.before.loop.invariant.1 _ c.before.before.loop-test.true c.before.task-byte.ensures c.if1.false)
 
 returns-2 : tie.Need-returns-2 invariant-loop decreases-loop
-returns-2 c = level-done _ _ _ _ _ c.before.loop.invariant.1 c.loop-test.false
+returns-2 c = level_done _ _ _ _ _ c.before.loop.invariant.1 c.loop-test.false
 
 pub level-of-spec : {M : Type 1} → statement M
 level-of-spec =

@@ -1,4 +1,4 @@
-use Rattle.books.proofs.Climb.{made-low, climb_none, climb_here, climb_on}
+use Rattle.books.proofs.Climb.{made_low, climb_none, climb_here, climb_on}
 use borrow.Author.Rules.{rules}
 use Prim.Native.Nat.{ℕ, ◌<◌}
 use borrow.Fn.Kinds.{In}
@@ -44,7 +44,7 @@ nearest-book-present-of-requires : (t : ℕ) → nearest-book-lts.Need-present-o
   nearest-book-below t,
   nearest-book.Post,
 ) (nearest-book-at t) nearest-book.Post
-nearest-book-present-of-requires t c κs = search (rules, made-low)
+nearest-book-present-of-requires t c κs = search (rules, made_low)
 
 nearest-book-returns-2 : (t : ℕ) → nearest-book-lts.Need-returns-2 (
   present-of-reads.Asked,

@@ -14,14 +14,14 @@ returns c = if_lt _ _ _ _ _ c.if1.true refl
 
 returns-2 : tie.Need-returns-2
 unfolding step_answer step_refusals first_of not_there wrong_place not_ready is_empty must_wait no_room unwanted deliver_says
-returns-2 c = if_ge _ _ _ _ _ c.before.before.before.if1.false (was_eq _ _ _ _ _ _ (rw c.before.before.wide.ensures.0 at c.before.slot-byte.ensures) c.if2.true refl)
+returns-2 c = if_ge _ _ _ _ _ c.before.before.before.if1.false (was_eq _ _ _ _ _ _ (rw c.before.before.wide.ensures.0 at c.before.slot_byte.ensures) c.if2.true refl)
 
 says-requires : tie.Need-says-requires
 says-requires c κs = (c.before.before.before.before.before.requires.0, (c.before.before.before.before.before.requires.1, omega (arith, c.before.before.before.if1.false)))
 
 returns-3 : tie.Need-returns-3
 unfolding step_answer step_refusals first_of not_there wrong_place not_ready is_empty must_wait no_room unwanted deliver_says
-returns-3 c = if_ge _ _ _ _ _ c.before.before.before.before.if1.false (was_ne _ _ _ _ _ _ (rw c.before.before.before.wide.ensures.0 at c.before.before.slot-byte.ensures) c.before.if2.false c.says.ensures)
+returns-3 c = if_ge _ _ _ _ _ c.before.before.before.before.if1.false (was_ne _ _ _ _ _ _ (rw c.before.before.before.wide.ensures.0 at c.before.before.slot_byte.ensures) c.before.if2.false c.says.ensures)
 
 pub deliver-refusal-spec : {M : Type 1} → statement M
 deliver-refusal-spec =

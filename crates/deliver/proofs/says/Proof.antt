@@ -7,7 +7,7 @@ use Rattle.deliver.proofs.says.Tie as tie
 
 says-tag-requires : tie.Need-says-tag-requires
 unfolding message_at message_in
-says-tag-requires c κs = (c.before.before.before.before.before.before.before.before.before.requires.0, ((c.before.before.before.before.before.before.before.before.before.requires.1.0, omega (arith, c.before.before.before.before.before.before.before.wide.ensures.0, c.before.before.before.before.before.before.before.before.before.requires.1.1)), rw (c.counts-at.ensures, c.before.slot-byte6.ensures, c.before.before.slot-byte5.ensures, c.before.before.before.slot-byte4.ensures, c.before.before.before.before.slot-byte3.ensures, c.before.before.before.before.before.slot-byte2.ensures, c.before.before.before.before.before.before.slot-byte.ensures) refl))
+says-tag-requires c κs = (c.before.before.before.before.before.before.before.before.before.requires.0, ((c.before.before.before.before.before.before.before.before.before.requires.1.0, omega (arith, c.before.before.before.before.before.before.before.wide.ensures.0, c.before.before.before.before.before.before.before.before.before.requires.1.1)), rw (c.counts-at.ensures, c.before.slot-byte6.ensures, c.before.before.slot-byte5.ensures, c.before.before.before.slot-byte4.ensures, c.before.before.before.before.slot-byte3.ensures, c.before.before.before.before.before.slot-byte2.ensures, c.before.before.before.before.before.before.slot_byte.ensures) refl))
 
 returns : tie.Need-returns
 returns c = rw (c.says-tag.ensures, c.before.before.before.before.before.before.before.before.wide.ensures.0)

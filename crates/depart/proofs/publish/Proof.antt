@@ -1,5 +1,5 @@
 use native.Mathlib.Omega.{arith}
-use Rattle.books.proofs.Climb.{made-low, parent_falls}
+use Rattle.books.proofs.Climb.{made_low, parent_falls}
 use mathlib.Core.Path.{refl}
 use Rattle.rules.specs.Messages.{send, bytes_of}
 use Rattle.rules.specs.Deliver.{delivered, deliver_publish}
@@ -17,7 +17,7 @@ nearest-book-requires c κs =
 new-book-requires : tie.Need-new-book-requires
 new-book-requires c κs =
     let p = c.before.before.before.before.before.before.before.before.before.requires.1.1 in
-    let low = made-low _ _ p.0 p.1.0.1 in
+    let low = made_low _ _ p.0 p.1.0.1 in
     let same = c.before.wide.ensures.0 in
     (search rules, ((omega (arith, same, p.1.0.0), omega (arith, same, low)), omega (arith, c.wide2.ensures.0, c.before.before.before.before.before.before.finish-byte.ensures, p.1.1)))
 

@@ -6,12 +6,12 @@ use Rattle.ending.proofs.end_sends.Tie as tie
 
 returns : tie.Need-returns
 unfolding end_sends
-returns c = was_true _ _ _ _ _ c.before.before.is-main.ensures c.before.if1.true
+returns c = was_true _ _ _ _ _ c.before.before.is_main.ensures c.before.if1.true
     (rw (c.finish-byte.ensures, c.before.before.before.before.task-byte.ensures))
 
 returns-2 : tie.Need-returns-2
 unfolding end_sends
-returns-2 c = was_false _ _ _ _ _ c.before.before.is-main.ensures c.before.if1.false
+returns-2 c = was_false _ _ _ _ _ c.before.before.is_main.ensures c.before.if1.false
     (rw (c.local-byte.ensures, c.before.before.before.task-byte2.ensures, c.before.before.before.before.task-byte.ensures))
 
 pub end-sends-spec : {M : Type 1} → statement M

@@ -6,12 +6,12 @@ use Rattle.ending.proofs.is_wanted.Tie as tie
 
 returns : tie.Need-returns
 unfolding end_wanted
-returns c = was_true _ _ _ _ _ c.before.before.is-main.ensures c.before.if1.true
-    (rw (c.main-wanted.ensures, c.before.before.before.before.task-byte.ensures))
+returns c = was_true _ _ _ _ _ c.before.before.is_main.ensures c.before.if1.true
+    (rw (c.main_wanted.ensures, c.before.before.before.before.task-byte.ensures))
 
 returns-2 : tie.Need-returns-2
 unfolding end_wanted
-returns-2 c = was_false _ _ _ _ _ c.before.before.is-main.ensures c.before.if1.false
+returns-2 c = was_false _ _ _ _ _ c.before.before.is_main.ensures c.before.if1.false
     (rw (c.other-wanted.ensures, c.before.before.before.task-byte2.ensures, c.before.before.before.before.task-byte.ensures))
 
 pub is-wanted-spec : {M : Type 1} → statement M

@@ -7,7 +7,7 @@ use Rattle.kill.proofs.kill.Tie as tie
 returns : tie.Need-returns
 unfolding kill_step
 returns c = rw (
-  c.before.before.kill-tasks.ensures,
+  c.before.before.kill_tasks.ensures,
   c.before.before.before.before.before.before.kill-finishes.ensures,
   c.before.before.before.before.before.before.before.before.before.before.kill-books.ensures,
   c.before.before.before.before.before.before.before.before.before.before.before.before.before.before.kill-locals.ensures,

@@ -2,7 +2,7 @@ use Rattle.answers.proofs.Joins.{is_refused, is_done}
 use Rattle.rules.specs.Step.{step}
 use Rattle.rules.specs.Sent.{sent_by}
 use Rattle.rules.proofs.Joins.{unchanged, changed}
-use Rattle.kill.proofs.Taken.{kill-range}
+use Rattle.kill.proofs.Taken.{kill_range}
 use borrow.Author.Rules.{rules}
 use Rattle.kill.proofs.kill_place.Statement.{statement}
 use Rattle.kill.proofs.kill_place.Tie as tie
@@ -11,7 +11,7 @@ returns : tie.Need-returns
 returns c = (search (rules, is_refused), search (rules, unchanged))
 
 kill-requires : tie.Need-kill-requires
-kill-requires c κs = (search rules, kill-range _ _ _ c.before.before.before.before.before.requires.1 c.before.before.kill-refusal.ensures c.before.if1.false)
+kill-requires c κs = (search rules, kill_range _ _ _ c.before.before.before.before.before.requires.1 c.before.before.kill-refusal.ensures c.before.if1.false)
 
 returns-2 : tie.Need-returns-2
 unfolding sent_by step

@@ -5,9 +5,9 @@ use Rattle.model.specs.Base.{upd, upd-cases, sum_mono, sum-upd, and_none, or-fal
 use Rattle.model.specs.State.{State, Message, Tasks, Locals, with_tasks, with_finish_status, with_locals, with_slot}
 use Rattle.model.specs.Guards.{Free}
 use Rattle.model.specs.Messages.{publish, transit}
-use Rattle.model.specs.Effects.Spawn.{spawnFirst, spawnLater}
-use Rattle.model.specs.Effects.End.{end_unpublished, homeReport, end_published, end_other, localReport, end_last}
-use Rattle.model.specs.Step.{Spawn, spawns-first, spawns_later, End, ends_unpublished, ends-published, ends_other, ends_last}
+use Rattle.model.specs.Effects.Spawn.{spawn_first, spawn_later}
+use Rattle.model.specs.Effects.End.{end_unpublished, home_report, end_published, end_other, local_report, end_last}
+use Rattle.model.specs.Step.{Spawn, spawns_first, spawns_later, End, ends_unpublished, ends_published, ends_other, ends_last}
 use Rattle.model.specs.Work.{way, fresh, book_work, books_work, work}
 
 -- a finish that waits for release, is released or lost gets no book any more
@@ -16,16 +16,16 @@ unfolding fresh
 not-fresh published status h = and_none (eqb published 0) (eqb status 1 || eqb status 2)
     (or-false (eqb status 1) (eqb status 2) (ne_eqb status 1 (λ e. omega arith)) (ne_eqb status 2 (λ e. omega arith)))
 
-is-fresh : (published status : ℕ) → published ≡ 0 → status ≡ 1 → fresh published status ≡ true
+is_fresh : (published status : ℕ) → published ≡ 0 → status ≡ 1 → fresh published status ≡ true
 unfolding fresh
-is-fresh published status p e = rw (p, e)
+is_fresh published status p e = rw (p, e)
 
 -- the work of a book rises by at most c, if both of its cases do and what is fresh was fresh
-pub case-adds : (present now was : Bool) (x y v w c : ℕ) → x ≤ y + c → v ≤ w + c → (now ≡ true → was ≡ true) → cond present x (cond now v 0) ≤ cond present y (cond was w 0) + c
-case-adds true now was x y v w c a b h = a
-case-adds false true true x y v w c a b h = b
-case-adds false true false x y v w c a b h = both (h refl) refl
-case-adds false false was x y v w c a b h = omega arith
+pub case_adds : (present now was : Bool) (x y v w c : ℕ) → x ≤ y + c → v ≤ w + c → (now ≡ true → was ≡ true) → cond present x (cond now v 0) ≤ cond present y (cond was w 0) + c
+case_adds true now was x y v w c a b h = a
+case_adds false true true x y v w c a b h = b
+case_adds false true false x y v w c a b h = both (h refl) refl
+case_adds false false was x y v w c a b h = omega arith
 
 pub way-none : way 0 ≡ 0
 unfolding way
@@ -44,49 +44,49 @@ closed : (s : State) (f v : ℕ) → 3 ≤ v → WereFresh s (upd s.finishes.sta
 closed s f v h = turned s f v (λ e. both e (not-fresh (s.finishes.published f) v h))
 
 -- tasks, local books and statuses of finishes are changed; then a message is sent, or none
-module _ (s : State) (tasks : Tasks) (locals : Locals) (status : ℕ → ℕ) (were-fresh : WereFresh s status) where
+module _ (s : State) (tasks : Tasks) (locals : Locals) (status : ℕ → ℕ) (were_fresh : WereFresh s status) where
   abbrev after : (ℕ → Message) → State
   after slot = with_slot slot (with_locals locals (with_finish_status status (with_tasks tasks s)))
 
-  book-falls : (slot : ℕ → Message) (f : ℕ) → book_work (after slot) f ≤ book_work s f + 0
+  book_falls : (slot : ℕ → Message) (f : ℕ) → book_work (after slot) f ≤ book_work s f + 0
   unfolding book_work
-  book-falls slot f = case-adds (eqb (s.books.present f) 1) (fresh (s.finishes.published f) (status f)) (fresh (s.finishes.published f) (s.finishes.status f)) _ _ _ _ 0
-      (omega arith) (omega arith) (were-fresh f)
+  book_falls slot f = case_adds (eqb (s.books.present f) 1) (fresh (s.finishes.published f) (status f)) (fresh (s.finishes.published f) (s.finishes.status f)) _ _ _ _ 0
+      (omega arith) (omega arith) (were_fresh f)
 
-  books-fall : (slot : ℕ → Message) → books_work (after slot) ≤ books_work s
-  books-fall slot = sum_mono (suc s.finishes.made) (book_work (after slot)) (book_work s) (λ f _. omega (arith, book-falls slot f))
+  books_fall : (slot : ℕ → Message) → books_work (after slot) ≤ books_work s
+  books_fall slot = sum_mono (suc s.finishes.made) (book_work (after slot)) (book_work s) (λ f _. omega (arith, book_falls slot f))
 
-  none-adds : work (after s.slot) ≤ work s
+  none_adds : work (after s.slot) ≤ work s
   unfolding work
-  none-adds = omega (arith, books-fall s.slot)
+  none_adds = omega (arith, books_fall s.slot)
 
-  one-adds : (k : ℕ) (m : Message) → Free s k → work (after (upd s.slot k m)) ≤ work s + way m.tag
+  one_adds : (k : ℕ) (m : Message) → Free s k → work (after (upd s.slot k m)) ≤ work s + way m.tag
   unfolding work
-  one-adds k m free =
+  one_adds k m free =
       let none : way (s.slot k).tag ≡ 0 = rw free.tag way-none in
-      omega (arith, books-fall (upd s.slot k m), sum-upd s.slots (λ _ w. way w.tag) s.slot k m free.range, none)
+      omega (arith, books_fall (upd s.slot k m), sum-upd s.slots (λ _ w. way w.tag) s.slot k m free.range, none)
 
-pub spawn-adds : {s s' : State} {t p : ℕ} → Spawn s t p s' → work s' ≤ work s + 5
+pub spawn_adds : {s : State} {t p : ℕ} {s' : State} → Spawn s t p s' → work s' ≤ work s + 5
 unfolding way
-spawn-adds {s} {t = t} {p = p} (spawns-first k a b c free e u st) =
+spawn_adds {s} {t = t} {p = p} (spawns_first k a b c free e u st) =
     let f = s.tasks.finish t in
-    one-adds s (spawnFirst s t p k).tasks s.locals (upd s.finishes.status f 2)
-    (turned s f 2 (λ _. is-fresh (s.finishes.published f) (s.finishes.status f) u st)) k (publish f (suc s.tasks.made)) free
-spawn-adds {s} {t = t} {p = p} (spawns_later k a b c free e) =
-    let one = one-adds s (spawnLater s t p k).tasks s.locals s.finishes.status (λ f h. h) k (transit (s.tasks.finish t) (suc s.tasks.made) (s.tasks.at t) p) free in
+    one_adds s (spawn_first s t p k).tasks s.locals (upd s.finishes.status f 2)
+    (turned s f 2 (λ _. is_fresh (s.finishes.published f) (s.finishes.status f) u st)) k (publish f (suc s.tasks.made)) free
+spawn_adds {s} {t = t} {p = p} (spawns_later k a b c free e) =
+    let one = one_adds s (spawn_later s t p k).tasks s.locals s.finishes.status (λ f h. h) k (transit (s.tasks.finish t) (suc s.tasks.made) (s.tasks.at t) p) free in
     omega arith
 
-pub end-adds : {s s' : State} {t : ℕ} → End s t s' → work s' ≤ work s + 1
+pub end_adds : {s : State} {t : ℕ} {s' : State} → End s t s' → work s' ≤ work s + 1
 unfolding way
-end-adds {s} {t = t} (ends_unpublished a b c d e) =
+end_adds {s} {t = t} (ends_unpublished a b c d e) =
     let f = s.tasks.finish t in
-    let none = none-adds s (end_unpublished s t).tasks s.locals (upd s.finishes.status f 4) (closed s f 4 (omega arith)) in
+    let none = none_adds s (end_unpublished s t).tasks s.locals (upd s.finishes.status f 4) (closed s f 4 (omega arith)) in
     omega arith
-end-adds {s} {t = t} (ends-published k a b c d free) =
+end_adds {s} {t = t} (ends_published k a b c d free) =
     let f = s.tasks.finish t in
-    one-adds s (end_published s t k).tasks s.locals (upd s.finishes.status f 3) (closed s f 3 (omega arith)) k (homeReport f (s.finishes.home f)) free
-end-adds {s} {t = t} (ends_other a b c) =
-    let none = none-adds s (end_other s t).tasks (end_other s t).locals s.finishes.status (λ f h. h) in
+    one_adds s (end_published s t k).tasks s.locals (upd s.finishes.status f 3) (closed s f 3 (omega arith)) k (home_report f (s.finishes.home f)) free
+end_adds {s} {t = t} (ends_other a b c) =
+    let none = none_adds s (end_other s t).tasks (end_other s t).locals s.finishes.status (λ f h. h) in
     omega arith
-end-adds {s} {t = t} (ends_last k a b c free d) =
-    one-adds s (end_last s t k).tasks (end_last s t k).locals s.finishes.status (λ f h. h) k (localReport s (s.tasks.finish t) (s.tasks.at t)) free
+end_adds {s} {t = t} (ends_last k a b c free d) =
+    one_adds s (end_last s t k).tasks (end_last s t k).locals s.finishes.status (λ f h. h) k (local_report s (s.tasks.finish t) (s.tasks.at t)) free

@@ -5,7 +5,7 @@ use Rattle.std.proofs.Math.Bool.{true, false}
 use Rattle.std.proofs.Common.{arith, eqb-true, eq-eqb, ne_eqb}
 use Rattle.std.proofs.Math.Dec.{eqb}
 use Rattle.std.proofs.lemmas.Bool.{eqb-false}
-use Rattle.model.specs.Base.Cases.{eq-cases, both}
+use Rattle.model.specs.Base.Cases.{eq_cases, both}
 
 -- f, but v at k
 unfoldable pub upd : {A : Type 0} → (ℕ → A) → ℕ → A → ℕ → A
@@ -34,8 +34,8 @@ module _ {A : Type 0} (f : ℕ → A) where
       go false e = n (eqb-false x k e)
 
 -- a place that is alive after the death of p was alive, and is another
-pub alive-after : (dead : ℕ → Bool) (p j : ℕ) → upd dead p true j ≡ false → (j ≡ p → ⊥) × (dead j ≡ false)
-alive-after dead p j e = eq-cases j p
+pub alive_after : (dead : ℕ → Bool) (p j : ℕ) → upd dead p true j ≡ false → (j ≡ p → ⊥) × (dead j ≡ false)
+alive_after dead p j e = eq_cases j p
     (λ q. both (upd_same dead p true) (rw q at e))
     (λ ne. (ne, rw (upd_other dead p true j ne) at e))
 
@@ -43,13 +43,13 @@ alive-after dead p j e = eq-cases j p
 unfoldable pub on : Bool → ℕ → ℕ
 on b n = cond b n 0
 
-pub on-true : (b : Bool) (n : ℕ) → b ≡ true → on b n ≡ n
+pub on_true : (b : Bool) (n : ℕ) → b ≡ true → on b n ≡ n
 unfolding on
-on-true b n e = rw e
+on_true b n e = rw e
 
-pub on-false : (b : Bool) (n : ℕ) → b ≡ false → on b n ≡ 0
+pub on_false : (b : Bool) (n : ℕ) → b ≡ false → on b n ≡ 0
 unfolding on
-on-false b n e = rw e
+on_false b n e = rw e
 
 pub on-le : (b : Bool) (n : ℕ) → on b n ≤ n
 unfolding on
@@ -74,10 +74,10 @@ on_or true false h = refl
 on_or false b h = omega arith
 
 -- a value raised to r where the test holds
-pub cond-raise : (b : Bool) (p r : ℕ) → p ≤ r → cond b r p ≡ p + on b (r - p)
+pub cond_raise : (b : Bool) (p r : ℕ) → p ≤ r → cond b r p ≡ p + on b (r - p)
 unfolding on
-cond-raise true p r h = omega arith
-cond-raise false p r h = omega arith
+cond_raise true p r h = omega arith
+cond_raise false p r h = omega arith
 
 -- the key a, b stands at x, y
 unfoldable pub is₂ : ℕ → ℕ → ℕ → ℕ → Bool
@@ -86,13 +86,13 @@ is₂ a b x y = eqb a x && eqb b y
 unfoldable pub is₃ : ℕ → ℕ → ℕ → ℕ → ℕ → ℕ → Bool
 is₃ a b c x y z = eqb a x && eqb b y && eqb c z
 
-pub is₂-same : (a b : ℕ) → is₂ a b a b ≡ true
+pub is₂_same : (a b : ℕ) → is₂ a b a b ≡ true
 unfolding is₂
-is₂-same a b = rw (eq-eqb a a refl, eq-eqb b b refl)
+is₂_same a b = rw (eq-eqb a a refl, eq-eqb b b refl)
 
-pub is₃-same : (a b c : ℕ) → is₃ a b c a b c ≡ true
+pub is₃_same : (a b c : ℕ) → is₃ a b c a b c ≡ true
 unfolding is₃
-is₃-same a b c = rw (eq-eqb a a refl, eq-eqb b b refl, eq-eqb c c refl)
+is₃_same a b c = rw (eq-eqb a a refl, eq-eqb b b refl, eq-eqb c c refl)
 
 pub is₂-cases : {P : Type 0} (a b x y : ℕ) → (a ≡ x → b ≡ y → P) → (is₂ a b x y ≡ false → P) → P
 unfolding is₂
@@ -113,18 +113,18 @@ is₃-cases {P} a b c x y z p n = go (eqb a x) refl (eqb b y) refl (eqb c z) ref
     go true e false d v g = n (rw (e, d))
     go false e u d v g = n (rw e)
 
-pub is₂-true : (a b x y : ℕ) → is₂ a b x y ≡ true → (a ≡ x) × (b ≡ y)
-is₂-true a b x y e = is₂-cases a b x y (λ p q. (p, q)) (λ n. both e n)
+pub is₂_true : (a b x y : ℕ) → is₂ a b x y ≡ true → (a ≡ x) × (b ≡ y)
+is₂_true a b x y e = is₂-cases a b x y (λ p q. (p, q)) (λ n. both e n)
 
-pub is₃-true : (a b c x y z : ℕ) → is₃ a b c x y z ≡ true → (a ≡ x) × (b ≡ y) × (c ≡ z)
-is₃-true a b c x y z e = is₃-cases a b c x y z (λ p q r. (p, q, r)) (λ n. both e n)
+pub is₃_true : (a b c x y z : ℕ) → is₃ a b c x y z ≡ true → (a ≡ x) × (b ≡ y) × (c ≡ z)
+is₃_true a b c x y z e = is₃-cases a b c x y z (λ p q r. (p, q, r)) (λ n. both e n)
 
-pub is₂-false : (a b x y : ℕ) → (a ≡ x → b ≡ y → ⊥) → is₂ a b x y ≡ false
-is₂-false a b x y n = is₂-cases a b x y (λ p q. absurd (n p q)) (λ e. e)
+pub is₂_false : (a b x y : ℕ) → (a ≡ x → b ≡ y → ⊥) → is₂ a b x y ≡ false
+is₂_false a b x y n = is₂-cases a b x y (λ p q. absurd (n p q)) (λ e. e)
 
-pub is₃-false : (a b c x y z : ℕ) → (a ≡ x → b ≡ y → c ≡ z → ⊥) → is₃ a b c x y z ≡ false
-is₃-false a b c x y z n = is₃-cases a b c x y z (λ p q r. absurd (n p q r)) (λ e. e)
+pub is₃_false : (a b c x y z : ℕ) → (a ≡ x → b ≡ y → c ≡ z → ⊥) → is₃ a b c x y z ≡ false
+is₃_false a b c x y z n = is₃-cases a b c x y z (λ p q r. absurd (n p q r)) (λ e. e)
 
 -- what stands where a key is met may name either
 pub on-is₂ : (g : ℕ → ℕ → ℕ) (a b x y : ℕ) → on (is₂ a b x y) (g a b) ≡ on (is₂ a b x y) (g x y)
-on-is₂ g a b x y = is₂-cases a b x y (λ p q. rw (p, q)) (λ e. rw (on-false (is₂ a b x y) (g a b) e, on-false (is₂ a b x y) (g x y) e))
+on-is₂ g a b x y = is₂-cases a b x y (λ p q. rw (p, q)) (λ e. rw (on_false (is₂ a b x y) (g a b) e, on_false (is₂ a b x y) (g x y) e))

@@ -31,7 +31,7 @@ without_book f s =
 -- Otherwise release (8) if the home lives, nothing if it is dead.
 pub data Closing (s : State) (f k : ℕ) : State → Type 0 where
   stays : Counts s f → Closing s f k s
-  ends-ghost : Closes s f → s.books.adopted f ≡ 1 → k < s.slots → (s.slot k).tag ≡ 0
+  ends_ghost : Closes s f → s.books.adopted f ≡ 1 → k < s.slots → (s.slot k).tag ≡ 0
       → Closing s f k (with_slot (upd s.slot k (ghost_ended (s.books.parent f) f)) (without_book f s))
   releases : Closes s f → s.books.adopted f ≡ 0 → s.dead (s.finishes.home f) ≡ false → k < s.slots → (s.slot k).tag ≡ 0
       → Closing s f k (with_slot (upd s.slot k (release f)) (without_book f s))

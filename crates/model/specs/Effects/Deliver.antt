@@ -49,24 +49,24 @@ deliver_transit s k =
     (with_sent (λ f i j. s.books.sent f i j + on (is₃ m.finish m.from m.to f i j) 1) s))
 
 -- receiver dead: reply 5.
-abbrev pub refuseTransit : State → ℕ → State
-refuseTransit s k =
+abbrev pub refuse_transit : State → ℕ → State
+refuse_transit s k =
     let m = s.slot k in
     with_slot (upd s.slot k (denied m.finish m.task m.from m.to)) s
 
 -- 4 granted: task on the wire, its spawner runs,
-abbrev pub withGranted : ℕ → State → State
-withGranted t s = with_task_status (wake (s.tasks.maker t) (upd s.tasks.status t 3)) s
+abbrev pub with_granted : ℕ → State → State
+with_granted t s = with_task_status (wake (s.tasks.maker t) (upd s.tasks.status t 3)) s
 
 -- reply 6;
 abbrev pub deliver_granted : State → ℕ → State
 deliver_granted s k =
     let m = s.slot k in
-    with_slot (upd s.slot k (task m.finish m.task m.from m.to)) (withGranted m.task s)
+    with_slot (upd s.slot k (task m.finish m.task m.from m.to)) (with_granted m.task s)
 
 -- receiver dead: the same without the reply.
-abbrev pub loseGranted : State → ℕ → State
-loseGranted s k = empty (withGranted (s.slot k).task s) k
+abbrev pub lose_granted : State → ℕ → State
+lose_granted s k = empty (with_granted (s.slot k).task s) k
 
 -- 5 denied: task dropped, its spawner runs.
 abbrev pub deliver_denied : State → ℕ → State

@@ -13,9 +13,9 @@ pub wake-none : (o : ℕ) (status : ℕ → ℕ) (x : ℕ) → o ≡ 0 → wake 
 unfolding wake
 wake-none o status x e = rw e
 
-pub wake-some : (o : ℕ) (status : ℕ → ℕ) (x : ℕ) → 0 < o → wake o status x ≡ upd status o 5 x
+pub wake_some : (o : ℕ) (status : ℕ → ℕ) (x : ℕ) → 0 < o → wake o status x ≡ upd status o 5 x
 unfolding wake
-wake-some o status x h = rw (ne_eqb o 0 (λ e. omega arith))
+wake_some o status x h = rw (ne_eqb o 0 (λ e. omega arith))
 
 -- End, main task: unpublished, the finish is released and its opener, if any, runs;
 abbrev pub end_unpublished : State → ℕ → State
@@ -25,14 +25,14 @@ end_unpublished s t =
     (with_task_status (wake (s.finishes.opener f) (upd s.tasks.status t 7)) s)
 
 -- a report from its home, count 1 for its home
-abbrev pub homeReport : ℕ → ℕ → Message
-homeReport f h = report f h (λ i. on (eqb h i) 1)
+abbrev pub home_report : ℕ → ℕ → Message
+home_report f h = report f h (λ i. on (eqb h i) 1)
 
 -- published, it waits for release and sends a report (7) from its home, count 1 for its home.
 abbrev pub end_published : State → ℕ → ℕ → State
 end_published s t k =
     let f = s.tasks.finish t in
-    with_slot (upd s.slot k (homeReport f (s.finishes.home f)))
+    with_slot (upd s.slot k (home_report f (s.finishes.home f)))
     (with_finish_status (upd s.finishes.status f 3)
     (with_task_status (upd s.tasks.status t 7) s))
 
@@ -43,12 +43,12 @@ end_other s t =
     (with_task_status (upd s.tasks.status t 7) s)
 
 -- received less reported for each sender
-abbrev pub localReport : State → ℕ → ℕ → Message
-localReport s f j = report f j (λ i. s.locals.received f j i - s.locals.reported f j i)
+abbrev pub local_report : State → ℕ → ℕ → Message
+local_report s f j = report f j (λ i. s.locals.received f j i - s.locals.reported f j i)
 
 -- at 0 a report carries received less reported for each sender, and reported becomes received.
 abbrev pub end_last : State → ℕ → ℕ → State
 end_last s t k =
-    with_slot (upd s.slot k (localReport s (s.tasks.finish t) (s.tasks.at t)))
+    with_slot (upd s.slot k (local_report s (s.tasks.finish t) (s.tasks.at t)))
     (with_reported (λ f j i. cond (is₂ (s.tasks.finish t) (s.tasks.at t) f j) (s.locals.received f j i) (s.locals.reported f j i))
     (end_other s t))

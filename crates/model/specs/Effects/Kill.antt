@@ -13,12 +13,12 @@ unfoldable pub loses_finish : ℕ → ℕ → ℕ → Bool
 loses_finish p home status = eqb home p && not (eqb status 4)
 
 -- column v of a square of n places is all 0
-unfoldable pub emptyColumn : ℕ → (ℕ → ℕ → ℕ) → ℕ → Bool
-emptyColumn n live v = eqb (sum n (λ i. live i v)) 0
+unfoldable pub empty_column : ℕ → (ℕ → ℕ → ℕ) → ℕ → Bool
+empty_column n live v = eqb (sum n (λ i. live i v)) 0
 
 -- Every book with a live count in its column has adopt due.
-unfoldable pub dueAfter : ℕ → ℕ → (ℕ → ℕ → ℕ) → ℕ → ℕ → ℕ
-dueAfter n present live due p = cond (eqb present 1 && not (emptyColumn n live p)) 1 due
+unfoldable pub due_after : ℕ → ℕ → (ℕ → ℕ → ℕ) → ℕ → ℕ → ℕ
+due_after n present live due p = cond (eqb present 1 && not (empty_column n live p)) 1 due
 
 -- Its local books become 0; messages going to it vanish.
 abbrev pub kill : State → ℕ → State
@@ -27,7 +27,7 @@ kill s p =
     with_dead (upd s.dead p true)
     (with_task_status (λ t. cond (loses_task p (s.tasks.from t) (s.tasks.at t) (s.tasks.status t)) 8 (s.tasks.status t))
     (with_finish_status (λ f. cond (loses_finish p (s.finishes.home f) (s.finishes.status f)) 5 (s.finishes.status f))
-    (with_due (λ f. dueAfter s.places (s.books.present f) (s.books.live f) (s.books.due f) p)
+    (with_due (λ f. due_after s.places (s.books.present f) (s.books.live f) (s.books.due f) p)
     (with_locals (record {
       received = λ f j i. cond (eqb j p) 0 (l.received f j i);
       reported = λ f j i. cond (eqb j p) 0 (l.reported f j i);

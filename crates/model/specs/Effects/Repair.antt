@@ -9,9 +9,9 @@ use Rattle.model.specs.Messages.{count_dropped}
 unfoldable pub orphan : ℕ → ℕ → ℕ → Bool → ℕ → Bool
 orphan present adopted parent dead f = eqb present 1 && (eqb adopted 0 && (eqb parent f && dead))
 
-pub orphan-true : (present adopted parent : ℕ) (dead : Bool) (f : ℕ) → orphan present adopted parent dead f ≡ true → (present ≡ 1) × (adopted ≡ 0) × (parent ≡ f) × (dead ≡ true)
+pub orphan_true : (present adopted parent : ℕ) (dead : Bool) (f : ℕ) → orphan present adopted parent dead f ≡ true → (present ≡ 1) × (adopted ≡ 0) × (parent ≡ f) × (dead ≡ true)
 unfolding orphan
-orphan-true present adopted parent dead f e =
+orphan_true present adopted parent dead f e =
     let a = eqb adopted 0 && (eqb parent f && dead) in
     let r = and_right (eqb present 1) a e in
     let q = and_right (eqb adopted 0) (eqb parent f && dead) r in
@@ -21,15 +21,15 @@ pub orphan_is : (present adopted parent : ℕ) (dead : Bool) (f : ℕ) → prese
 unfolding orphan
 orphan_is present adopted parent dead f a b c d = rw (a, b, c, d, eq-eqb f f refl)
 
-abbrev pub isOrphan : State → ℕ → ℕ → Bool
-isOrphan s f g = orphan (s.books.present g) (s.books.adopted g) (s.books.parent g) (s.dead (s.finishes.home g)) f
+abbrev pub is_orphan : State → ℕ → ℕ → Bool
+is_orphan s f g = orphan (s.books.present g) (s.books.adopted g) (s.books.parent g) (s.dead (s.finishes.home g)) f
 
 -- Adopt f: every present unadopted book with a dead home and parent f becomes adopted and a ghost of f; due is cleared.
 abbrev pub adopt : State → ℕ → State
 adopt s f =
     with_due (upd s.books.due f 0)
-    (with_adopted (λ g. cond (isOrphan s f g) 1 (s.books.adopted g))
-    (with_ghosts (λ q g. s.books.ghosts q g || (eqb q f && isOrphan s f g)) s))
+    (with_adopted (λ g. cond (is_orphan s f g) 1 (s.books.adopted g))
+    (with_ghosts (λ q g. s.books.ghosts q g || (eqb q f && is_orphan s f g)) s))
 
 -- Cancel f, v: column v becomes 0,
 abbrev pub cancel : State → ℕ → ℕ → State

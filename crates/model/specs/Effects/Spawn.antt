@@ -5,8 +5,8 @@ use Rattle.model.specs.State.{State, with_tasks, with_finish_status, with_slot}
 use Rattle.model.specs.Messages.{publish, transit}
 
 -- task t blocks; the new task is from its place to p, with status v
-abbrev pub withSpawned : ℕ → ℕ → ℕ → State → State
-withSpawned t p v s =
+abbrev pub with_spawned : ℕ → ℕ → ℕ → State → State
+with_spawned t p v s =
     let T = s.tasks in
     let n = suc T.made in
     with_tasks (record {
@@ -20,14 +20,14 @@ withSpawned t p v s =
     }) s
 
 -- A main task whose finish is unpublished: finish publishing, new task status 1, publish (1) sent.
-abbrev pub spawnFirst : State → ℕ → ℕ → ℕ → State
-spawnFirst s t p k =
+abbrev pub spawn_first : State → ℕ → ℕ → ℕ → State
+spawn_first s t p k =
     let f = s.tasks.finish t in
     with_slot (upd s.slot k (publish f (suc s.tasks.made)))
-    (with_finish_status (upd s.finishes.status f 2) (withSpawned t p 1 s))
+    (with_finish_status (upd s.finishes.status f 2) (with_spawned t p 1 s))
 
 -- Otherwise status 2, transit (3).
-abbrev pub spawnLater : State → ℕ → ℕ → ℕ → State
-spawnLater s t p k =
+abbrev pub spawn_later : State → ℕ → ℕ → ℕ → State
+spawn_later s t p k =
     with_slot (upd s.slot k (transit (s.tasks.finish t) (suc s.tasks.made) (s.tasks.at t) p))
-    (withSpawned t p 2 s)
+    (with_spawned t p 2 s)

@@ -1,7 +1,7 @@
 -- Quiet: no message in flight, no book under repair, no count owed. Then the books are right.
 use Rattle.std.specs.Prelude.{◌≡◌, true, false, ℕ, ◌+◌, ◌<◌}
 use Rattle.std.proofs.Common.{arith}
-use Rattle.model.specs.Base.{on-true, on-false, is₂, is₃, bool_cases, eq-cases}
+use Rattle.model.specs.Base.{on_true, on_false, is₂, is₃, bool_cases, eq_cases}
 use Rattle.model.specs.State.{State}
 use Rattle.model.specs.Messages.{between, reports, answered, tallied-none}
 use Rattle.model.specs.Weights.{mainly, ended, weigh-le}
@@ -15,34 +15,34 @@ pub record Quiet (s : State) : Type 0 where
   pub asked : (f i j : ℕ) → s.books.present f ≡ 1 → s.dead i ≡ true → j < s.places → s.dead j ≡ false → 0 < s.books.live f i j → s.books.asked f i j ≡ true
 
 module _ (s : State) (inv : Inv s) (quiet : Quiet s) (f i j : ℕ) (present : s.books.present f ≡ 1) (lives : s.dead j ≡ false) where
-  no-reports : reports s f i j ≡ 0
-  no-reports = tallied-none s quiet.empty 7 (λ m. is₂ m.finish m.from f j) (λ m. m.counts i) (omega arith)
+  no_reports : reports s f i j ≡ 0
+  no_reports = tallied-none s quiet.empty 7 (λ m. is₂ m.finish m.from f j) (λ m. m.counts i) (omega arith)
 
-  no-answers : answered s f i j ≡ 0
-  no-answers = tallied-none s quiet.empty 11 (λ m. is₃ m.finish m.from m.to f i j) (λ m. m.number) (omega arith)
+  no_answers : answered s f i j ≡ 0
+  no_answers = tallied-none s quiet.empty 11 (λ m. is₃ m.finish m.from m.to f i j) (λ m. m.number) (omega arith)
 
-  no-pair : (t : ℕ) → 0 < t → between s t f i j ≡ 0
-  no-pair t h = tallied-none s quiet.empty t (λ m. is₃ m.finish m.from m.to f i j) (λ m. 1) h
+  no_pair : (t : ℕ) → 0 < t → between s t f i j ≡ 0
+  no_pair t h = tallied-none s quiet.empty t (λ m. is₃ m.finish m.from m.to f i j) (λ m. 1) h
 
   -- each cell of a live receiver is what it has received and not yet reported; the home's own cell is the main task, until it has ended
-  pub quiet-cells : s.books.live f i j + s.locals.reported f j i + ended s f i j ≡ s.locals.received f j i + mainly s f i j
-  quiet-cells = bool_cases (s.locals.denied f j i)
-      (λ d. omega (arith, inv.counted-denied f i j present lives d, no-reports, no-answers))
+  pub quiet_cells : s.books.live f i j + s.locals.reported f j i + ended s f i j ≡ s.locals.received f j i + mainly s f i j
+  quiet_cells = bool_cases (s.locals.denied f j i)
+      (λ d. omega (arith, inv.counted-denied f i j present lives d, no_reports, no_answers))
       (λ d. bool_cases (s.dead i)
-      (λ x. eq-cases (s.books.live f i j) 0
+      (λ x. eq_cases (s.books.live f i j) 0
       (λ z. omega (
         arith,
         inv.counted f i j present lives d,
-        inv.sent-most f i j present lives,
-        inv.reported-most f j i,
+        inv.sent_most f i j present lives,
+        inv.reported_most f j i,
         weigh-le (is₂ (s.finishes.home f) (s.finishes.home f) i j) 3 5 (s.finishes.status f),
-        no-reports,
+        no_reports,
       ))
       (λ n. omega (
         arith,
         inv.marked f i j present lives,
-        on-true (s.books.asked f i j) 1 (quiet.asked f i j present x (inv.cell-places f i j (omega arith)).1 lives (omega arith)),
-        on-false (s.locals.denied f j i) 1 d,
-        no-pair 10 (omega arith),
+        on_true (s.books.asked f i j) 1 (quiet.asked f i j present x (inv.cell-places f i j (omega arith)).1 lives (omega arith)),
+        on_false (s.locals.denied f j i) 1 d,
+        no_pair 10 (omega arith),
       )))
-      (λ x. omega (arith, inv.counted f i j present lives d, inv.sent-from f i j present lives x, no-reports, no-pair 4 (omega arith), no-pair 6 (omega arith))))
+      (λ x. omega (arith, inv.counted f i j present lives d, inv.sent_from f i j present lives x, no_reports, no_pair 4 (omega arith), no_pair 6 (omega arith))))

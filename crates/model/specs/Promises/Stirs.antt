@@ -1,13 +1,13 @@
 -- A message that waits for the repair of its book, 3 or 7 from a live place or 9, keeps that book open: no cancel of it closes it.
 use Rattle.std.specs.Prelude.{◌≡◌, true, false, ◌⊎◌, ℕ, ◌<◌}
 use Rattle.std.proofs.Common.{inl, inr, arith}
-use Rattle.model.specs.Base.{on-false, is₂, is₂-same}
+use Rattle.model.specs.Base.{on_false, is₂, is₂_same}
 use Rattle.model.specs.State.{State}
 use Rattle.model.specs.Effects.Closing.{Closes}
 use Rattle.model.specs.Effects.Repair.{cancel}
 use Rattle.model.specs.Inv.{Inv}
-use Rattle.model.specs.Facts.InFlight.{tallied-ge}
-use Rattle.model.specs.Facts.Closed.{no-transit, no-report}
+use Rattle.model.specs.Facts.InFlight.{tallied_ge}
+use Rattle.model.specs.Facts.Closed.{no_transit, no_report}
 use Rattle.model.specs.Steps.Cancel.{cleared}
 
 -- the message in slot k is a 3 or 7 from a live place, or a 9
@@ -16,15 +16,15 @@ Waits s k = ((((s.slot k).tag ≡ 3) ⊎ ((s.slot k).tag ≡ 7)) × (s.dead (s.s
 
 module _ (s : State) (inv : Inv s) (k : ℕ) (in_flight : k < s.slots) (f : ℕ) (is_finish : (s.slot k).finish ≡ f) (present : s.books.present f ≡ 1) (v : ℕ) (died : s.dead v ≡ true) (settled : s.books.due f ≡ 0) where
   -- the ghost that it ends is still in the book
-  has-ghost : (s.slot k).tag ≡ 9 → s.books.ghosts f (s.slot k).number ≡ false → ⊥
-  has-ghost e none = omega (
+  has_ghost : (s.slot k).tag ≡ 9 → s.books.ghosts f (s.slot k).number ≡ false → ⊥
+  has_ghost e none = omega (
     arith,
     inv.ghosts f (s.slot k).number,
-    tallied-ge s k 9 (λ m. is₂ m.finish m.number f (s.slot k).number) (λ m. 1) in_flight e (rw is_finish (is₂-same f (s.slot k).number)),
-    on-false (s.books.ghosts f (s.slot k).number) 1 none,
+    tallied_ge s k 9 (λ m. is₂ m.finish m.number f (s.slot k).number) (λ m. 1) in_flight e (rw is_finish (is₂_same f (s.slot k).number)),
+    on_false (s.books.ghosts f (s.slot k).number) 1 none,
   )
 
   pub stays_open : Waits s k → Closes (cancel s f v) f → ⊥
-  stays_open (inl (inl e, lives)) closes = no-transit (cancel s f v) (cleared s f v inv died settled) f present closes k in_flight (omega arith) (omega arith) is_finish lives
-  stays_open (inl (inr e, lives)) closes = no-report (cancel s f v) (cleared s f v inv died settled) f present closes k in_flight e is_finish lives
-  stays_open (inr e) closes = has-ghost e (closes.1 (s.slot k).number)
+  stays_open (inl (inl e, lives)) closes = no_transit (cancel s f v) (cleared s f v inv died settled) f present closes k in_flight (omega arith) (omega arith) is_finish lives
+  stays_open (inl (inr e, lives)) closes = no_report (cancel s f v) (cleared s f v inv died settled) f present closes k in_flight e is_finish lives
+  stays_open (inr e) closes = has_ghost e (closes.1 (s.slot k).number)

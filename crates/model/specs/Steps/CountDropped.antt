@@ -1,9 +1,9 @@
 -- Deliver of count-dropped (10) keeps the invariant: the sender is denied, and the answer takes what will never be received.
 use Rattle.std.specs.Prelude.{◌≡◌, refl, true, false, ℕ, ◌+◌, ◌-◌, ◌<◌}
 use Rattle.std.proofs.Common.{sym, ap, ◌∙◌, arith}
-use Rattle.model.specs.Base.{upd-cases, on, on-true, on-false, on-le, on_or, is₂, is₃, is₂-false, is₃-same, is₃-true, is₃-false, bool_cases, both, or_cases, or_left, or-false, or-false-left, or-false-right}
+use Rattle.model.specs.Base.{upd-cases, on, on_true, on_false, on-le, on_or, is₂, is₃, is₂_false, is₃_same, is₃_true, is₃_false, bool_cases, both, or_cases, or_left, or-false, or_false_left, or_false_right}
 use Rattle.model.specs.State.{State, Message, with_denied}
-use Rattle.model.specs.Messages.{dropped, answered, reports, tally_is, tally_else, tallied-moves}
+use Rattle.model.specs.Messages.{dropped, answered, reports, tally_is, tally_else, tallied_moves}
 use Rattle.model.specs.Weights.{mainly, ended}
 use Rattle.model.specs.Guards.{Full}
 use Rattle.model.specs.Effects.Deliver.{deliver_count_dropped}
@@ -11,7 +11,7 @@ use Rattle.model.specs.Inv.{Inv}
 use Rattle.model.specs.Inv.Messages as M
 use Rattle.model.specs.Inv.Cells as C
 use Rattle.model.specs.Inv.Locals as L
-use Rattle.model.specs.Facts.InFlight.{tallied-ge}
+use Rattle.model.specs.Facts.InFlight.{tallied_ge}
 use Rattle.model.specs.Steps.Written as W
 
 module _ (s : State) (k : ℕ) (inv : Inv s) (full : Full s k 10) where
@@ -40,8 +40,8 @@ module _ (s : State) (k : ℕ) (inv : Inv s) (full : Full s k 10) where
   is_published_lem : s.finishes.published f₀ ≡ 1
   is_published_lem = inv.fresh_messages k full.range (omega (arith, full.tag)) (λ q. omega (arith, full.tag))
 
-  sender-dead : s.dead v₀ ≡ true
-  sender-dead = (inv.asks k full.range (omega (arith, full.tag))).0
+  sender_dead : s.dead v₀ ≡ true
+  sender_dead = (inv.asks k full.range (omega (arith, full.tag))).0
 
   lives : s.dead j₀ ≡ false
   lives = (inv.questions k full.range full.tag).0
@@ -52,55 +52,55 @@ module _ (s : State) (k : ℕ) (inv : Inv s) (full : Full s k 10) where
       (λ d. absurd (omega (
         arith,
         inv.marked f₀ v₀ j₀ p lives,
-        tallied-ge s k 10 (λ m. is₃ m.finish m.from m.to f₀ v₀ j₀) (λ m. 1) full.range full.tag (is₃-same f₀ v₀ j₀),
-        on-true (s.locals.denied f₀ j₀ v₀) 1 d,
+        tallied_ge s k 10 (λ m. is₃ m.finish m.from m.to f₀ v₀ j₀) (λ m. 1) full.range full.tag (is₃_same f₀ v₀ j₀),
+        on_true (s.locals.denied f₀ j₀ v₀) 1 d,
         on-le (s.books.asked f₀ v₀ j₀) 1,
       )))
       (λ d. d)
 
-  answers-rise : (f i j : ℕ) → answered s' f i j ≡ answered s f i j + on (is₃ f₀ v₀ j₀ f i j) m₀.number
-  answers-rise f i j = omega (
+  answers_rise : (f i j : ℕ) → answered s' f i j ≡ answered s f i j + on (is₃ f₀ v₀ j₀ f i j) m₀.number
+  answers_rise f i j = omega (
     arith,
-    tallied-moves s k m₀ full.range 11 (λ m. is₃ m.finish m.from m.to f i j) (λ m. m.number),
+    tallied_moves s k m₀ full.range 11 (λ m. is₃ m.finish m.from m.to f i j) (λ m. m.number),
     tally_else 11 (s.slot k) (is₃ f₀ v₀ j₀ f i j) (s.slot k).number (λ q. omega (arith, full.tag)),
     tally_is 11 m₀ (is₃ f₀ v₀ j₀ f i j) m₀.number refl,
   )
 
-  late-before : M.Late s₁
-  late-before l h e p = or_left (s.locals.denied (s.slot l).finish (s.slot l).to (s.slot l).from) (is₃ f₀ v₀ j₀ (s.slot l).finish (s.slot l).from (s.slot l).to) (inv.late l h e p)
+  late_before : M.Late s₁
+  late_before l h e p = or_left (s.locals.denied (s.slot l).finish (s.slot l).to (s.slot l).from) (is₃ f₀ v₀ j₀ (s.slot l).finish (s.slot l).from (s.slot l).to) (inv.late l h e p)
 
   questions : M.Questions s'
   questions l h = upd-cases s.slot (M.QuestionsOf s') k m₀ l
       (λ _ e. absurd (omega arith))
-      (λ _ e. let r = inv.questions l h e in (r.0, omega (arith, r.1, W.between-same s₁ k m₀ full.range 6 (s.slot l).finish (s.slot l).from (s.slot l).to (other_tag 6 (omega arith) (λ q. omega arith) (λ q. omega arith))), r.2))
+      (λ _ e. let r = inv.questions l h e in (r.0, omega (arith, r.1, W.between_same s₁ k m₀ full.range 6 (s.slot l).finish (s.slot l).from (s.slot l).to (other_tag 6 (omega arith) (λ q. omega arith) (λ q. omega arith))), r.2))
 
-  fresh-locals : M.FreshLocals s'
-  fresh-locals f j i e =
-      let r = inv.fresh-locals f j i e in
-      (r.0, r.1, r.2, or-false (s.locals.denied f j i) (is₃ f₀ v₀ j₀ f i j) r.3 (is₃-false f₀ v₀ j₀ f i j (λ q _ _. omega (arith, is_published_lem, ap s.finishes.published q))))
+  fresh_locals : M.FreshLocals s'
+  fresh_locals f j i e =
+      let r = inv.fresh_locals f j i e in
+      (r.0, r.1, r.2, or-false (s.locals.denied f j i) (is₃ f₀ v₀ j₀ f i j) r.3 (is₃_false f₀ v₀ j₀ f i j (λ q _ _. omega (arith, is_published_lem, ap s.finishes.published q))))
 
   denied-dead : L.DeniedDead s'
-  denied-dead f j i e = or_cases (s.locals.denied f j i) (is₃ f₀ v₀ j₀ f i j) e (inv.denied-dead f j i) (λ t. ap s.dead (sym (is₃-true f₀ v₀ j₀ f i j t).1) ∙ sender-dead)
+  denied-dead f j i e = or_cases (s.locals.denied f j i) (is₃ f₀ v₀ j₀ f i j) e (inv.denied-dead f j i) (λ t. ap s.dead (sym (is₃_true f₀ v₀ j₀ f i j t).1) ∙ sender_dead)
 
   marked : C.Marked s'
   marked f i j p a = omega (
     arith,
     inv.marked f i j p a,
-    tallied-moves s k m₀ full.range 10 (λ m. is₃ m.finish m.from m.to f i j) (λ m. 1),
+    tallied_moves s k m₀ full.range 10 (λ m. is₃ m.finish m.from m.to f i j) (λ m. 1),
     tally_is 10 (s.slot k) (is₃ f₀ v₀ j₀ f i j) 1 full.tag,
     tally_else 10 m₀ (is₃ f₀ v₀ j₀ f i j) 1 (λ q. omega arith),
-    on_or (s.locals.denied f j i) (is₃ f₀ v₀ j₀ f i j) (λ t. let q = is₃-true f₀ v₀ j₀ f i j t in rw (← q.0, ← q.1, ← q.2) (not_yet (ap s.books.present q.0 ∙ p))),
+    on_or (s.locals.denied f j i) (is₃ f₀ v₀ j₀ f i j) (λ t. let q = is₃_true f₀ v₀ j₀ f i j t in rw (← q.0, ← q.1, ← q.2) (not_yet (ap s.books.present q.0 ∙ p))),
   )
 
   counted : C.Counted s'
-  counted f i j p a d = omega (arith, inv.counted f i j p a (or-false-left (s.locals.denied f j i) (is₃ f₀ v₀ j₀ f i j) d), W.reports-same s₁ k m₀ full.range f i j (other_tag 7 (omega arith) (λ q. omega arith) (λ q. omega arith)))
+  counted f i j p a d = omega (arith, inv.counted f i j p a (or_false_left (s.locals.denied f j i) (is₃ f₀ v₀ j₀ f i j) d), W.reports_same s₁ k m₀ full.range f i j (other_tag 7 (omega arith) (λ q. omega arith) (λ q. omega arith)))
 
   no_answer : C.NoAnswer s'
   no_answer f i j p a d = omega (
     arith,
-    inv.no_answer f i j p a (or-false-left (s.locals.denied f j i) (is₃ f₀ v₀ j₀ f i j) d),
-    answers-rise f i j,
-    on-false (is₃ f₀ v₀ j₀ f i j) m₀.number (or-false-right (s.locals.denied f j i) (is₃ f₀ v₀ j₀ f i j) d),
+    inv.no_answer f i j p a (or_false_left (s.locals.denied f j i) (is₃ f₀ v₀ j₀ f i j) d),
+    answers_rise f i j,
+    on_false (is₃ f₀ v₀ j₀ f i j) m₀.number (or_false_right (s.locals.denied f j i) (is₃ f₀ v₀ j₀ f i j) d),
   )
 
   -- the pair itself: what was sent is received or dropped
@@ -115,26 +115,26 @@ module _ (s : State) (k : ℕ) (inv : Inv s) (full : Full s k 10) where
         inv.no_answer f₀ v₀ j₀ p lives d,
         q.1,
         q.2 p,
-        answers-rise f₀ v₀ j₀,
-        on-true (is₃ f₀ v₀ j₀ f₀ v₀ j₀) m₀.number (is₃-same f₀ v₀ j₀),
-        on-false (is₂ h h v₀ j₀) 1 (is₂-false h h v₀ j₀ (λ x y. both sender-dead (ap s.dead (sym x ∙ y) ∙ lives))),
+        answers_rise f₀ v₀ j₀,
+        on_true (is₃ f₀ v₀ j₀ f₀ v₀ j₀) m₀.number (is₃_same f₀ v₀ j₀),
+        on_false (is₂ h h v₀ j₀) 1 (is₂_false h h v₀ j₀ (λ x y. both sender_dead (ap s.dead (sym x ∙ y) ∙ lives))),
       )
 
   counted-denied : C.CountedDenied s'
   counted-denied f i j p a d = bool_cases (is₃ f₀ v₀ j₀ f i j)
-      (λ t. let q = is₃-true f₀ v₀ j₀ f i j t in rw (← q.0, ← q.1, ← q.2) (omega (arith, pair (ap s.books.present q.0 ∙ p), W.reports-same s₁ k m₀ full.range f₀ v₀ j₀ (other_tag 7 (omega arith) (λ q. omega arith) (λ q. omega arith)))))
+      (λ t. let q = is₃_true f₀ v₀ j₀ f i j t in rw (← q.0, ← q.1, ← q.2) (omega (arith, pair (ap s.books.present q.0 ∙ p), W.reports_same s₁ k m₀ full.range f₀ v₀ j₀ (other_tag 7 (omega arith) (λ q. omega arith) (λ q. omega arith)))))
       (λ n. omega (
         arith,
         inv.counted-denied f i j p a (or_cases (s.locals.denied f j i) (is₃ f₀ v₀ j₀ f i j) d (λ x. x) (λ t. both t n)),
-        answers-rise f i j,
-        on-false (is₃ f₀ v₀ j₀ f i j) m₀.number n,
-        W.reports-same s₁ k m₀ full.range f i j (other_tag 7 (omega arith) (λ q. omega arith) (λ q. omega arith)),
+        answers_rise f i j,
+        on_false (is₃ f₀ v₀ j₀ f i j) m₀.number n,
+        W.reports_same s₁ k m₀ full.range f i j (other_tag 7 (omega arith) (λ q. omega arith) (λ q. omega arith)),
       ))
 
-  pub delivers-count-dropped-keeps : Inv (deliver_count_dropped s k)
-  delivers-count-dropped-keeps = search (
+  pub delivers_count_dropped_keeps : Inv (deliver_count_dropped s k)
+  delivers_count_dropped_keeps = search (
     questions,
-    fresh-locals,
+    fresh_locals,
     counted,
     counted-denied,
     no_answer,
@@ -142,30 +142,30 @@ module _ (s : State) (k : ℕ) (inv : Inv s) (full : Full s k 10) where
     denied-dead,
     W.each s₁ k m₀ full.range (M.TagsOf s₁) inv.tags (omega arith),
     W.each s₁ k m₀ full.range (M.NamesFinishOf s₁) inv.names_finish (λ _. inv.names_finish k full.range (omega (arith, full.tag))),
-    W.each s₁ k m₀ full.range (M.NamesTaskOf s₁) inv.names_task (λ _ h. absurd (omega arith)),
-    W.each s₁ k m₀ full.range (M.NamesPairOf s₁) inv.names_pair (λ _ h. absurd (omega arith)),
-    W.each s₁ k m₀ full.range (M.NamesPlacesOf s₁) inv.names_places (λ _. inv.names_places k full.range (omega (arith, full.tag))),
+    W.each s₁ k m₀ full.range (M.NamesTaskOf s₁) inv.names-task (λ _ h. absurd (omega arith)),
+    W.each s₁ k m₀ full.range (M.NamesPairOf s₁) inv.names-pair (λ _ h. absurd (omega arith)),
+    W.each s₁ k m₀ full.range (M.NamesPlacesOf s₁) inv.names-places (λ _. inv.names-places k full.range (omega (arith, full.tag))),
     W.each s₁ k m₀ full.range (M.PublishesOf s₁) inv.publishes (λ e. absurd (omega arith)),
     W.each s₁ k m₀ full.range (M.PublishedOf s₁) inv.published (λ e. absurd (omega arith)),
     W.publish_once s₁ k m₀ full.range (other_tag 1 (omega arith) (λ q. omega arith) (λ q. omega arith)) (other_tag 2 (omega arith) (λ q. omega arith) (λ q. omega arith)) inv.publish_once,
     W.publish_some s₁ k m₀ full.range (other_tag 1 (omega arith) (λ q. omega arith) (λ q. omega arith)) (other_tag 2 (omega arith) (λ q. omega arith) (λ q. omega arith)) inv.publish_some,
     W.each s₁ k m₀ full.range (M.TransitsOf s₁) inv.transits (λ _ h. absurd (omega arith)),
-    W.each s₁ k m₀ full.range (M.LostTransitsOf s₁) inv.lost-transits (λ _ h. absurd (omega arith)),
+    W.each s₁ k m₀ full.range (M.LostTransitsOf s₁) inv.lost_transits (λ _ h. absurd (omega arith)),
     W.each s₁ k m₀ full.range (M.OnWireOf s₁) inv.on_wire (λ e. absurd (omega arith)),
-    W.each s₁ k m₀ full.range (M.LateOf s₁) late-before (λ e. absurd (omega arith)),
+    W.each s₁ k m₀ full.range (M.LateOf s₁) late_before (λ e. absurd (omega arith)),
     W.named_once s₁ k m₀ full.range (λ x z h. other_tag x z (λ q. omega arith) (λ q. omega arith)) inv.named_once,
     W.named_publish s₁ k m₀ full.range (other_tag 1 (omega arith) (λ q. omega arith) (λ q. omega arith)) (other_tag 2 (omega arith) (λ q. omega arith) (λ q. omega arith)) inv.named_publish,
     W.named_transit s₁ k m₀ full.range (other_tag 3 (omega arith) (λ q. omega arith) (λ q. omega arith)) (other_tag 4 (omega arith) (λ q. omega arith) (λ q. omega arith)) (other_tag 5 (omega arith) (λ q. omega arith) (λ q. omega arith)) inv.named_transit,
     W.each s₁ k m₀ full.range (M.ReportCountsOf s₁) inv.report-counts (λ e. absurd (omega arith)),
-    W.each s₁ k m₀ full.range (M.ReportBookOf s₁) inv.report-book (λ e. absurd (omega arith)),
+    W.each s₁ k m₀ full.range (M.ReportBookOf s₁) inv.report_book (λ e. absurd (omega arith)),
     W.release_some s₁ k m₀ full.range (other_tag 8 (omega arith) (λ q. omega arith) (λ q. omega arith)) inv.release_some,
     W.release-none s₁ k m₀ full.range (other_tag 8 (omega arith) (λ q. omega arith) (λ q. omega arith)) inv.release-none,
     W.ghosts s₁ k m₀ full.range (other_tag 9 (omega arith) (λ q. omega arith) (λ q. omega arith)) inv.ghosts,
     W.each s₁ k m₀ full.range (M.GhostEndsOf s₁) inv.ghost_ends (λ e. absurd (omega arith)),
     W.each s₁ k m₀ full.range (M.AsksOf s₁) inv.asks (λ _. inv.asks k full.range (omega (arith, full.tag))),
     W.each s₁ k m₀ full.range (M.FreshMessagesOf s₁) inv.fresh_messages (λ _ _. is_published_lem),
-    W.sent-from s₁ k m₀ full.range (other_tag 4 (omega arith) (λ q. omega arith) (λ q. omega arith)) (other_tag 6 (omega arith) (λ q. omega arith) (λ q. omega arith)) inv.sent-from,
-    W.sent-most s₁ k m₀ full.range (other_tag 6 (omega arith) (λ q. omega arith) (λ q. omega arith)) inv.sent-most,
-    W.sent-tasks-most s₁ k m₀ full.range (other_tag 3 (omega arith) (λ q. omega arith) (λ q. omega arith)) inv.sent-tasks-most,
-    W.reports-most s₁ k m₀ full.range (other_tag 7 (omega arith) (λ q. omega arith) (λ q. omega arith)) inv.reports-most,
+    W.sent_from s₁ k m₀ full.range (other_tag 4 (omega arith) (λ q. omega arith) (λ q. omega arith)) (other_tag 6 (omega arith) (λ q. omega arith) (λ q. omega arith)) inv.sent_from,
+    W.sent_most s₁ k m₀ full.range (other_tag 6 (omega arith) (λ q. omega arith) (λ q. omega arith)) inv.sent_most,
+    W.sent_tasks_most s₁ k m₀ full.range (other_tag 3 (omega arith) (λ q. omega arith) (λ q. omega arith)) inv.sent_tasks_most,
+    W.reports_most s₁ k m₀ full.range (other_tag 7 (omega arith) (λ q. omega arith) (λ q. omega arith)) inv.reports_most,
   )

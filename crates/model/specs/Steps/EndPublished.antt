@@ -2,12 +2,12 @@
 use Rattle.std.specs.Prelude.{◌≡◌, refl, Bool, true, false, cond, ◌&&◌, ℕ, ◌+◌, ◌≤◌, ◌<◌, eqb}
 use Rattle.std.proofs.Common.{sym, ap, ◌∙◌, eq-eqb, ne_eqb}
 use native.Mathlib.Omega.{arith}
-use Rattle.model.specs.Base.{upd, upd_same, upd_other, upd-cases, on, on-true, on-false, on_zero, is₂, is₂-cases, is₂-false, eq-cases}
+use Rattle.model.specs.Base.{upd, upd_same, upd_other, upd-cases, on, on_true, on_false, on_zero, is₂, is₂-cases, is₂_false, eq_cases}
 use Rattle.model.specs.State.{State, Message, with_task_status, with_finish_status}
 use Rattle.model.specs.Messages.{reports, of_finish}
 use Rattle.model.specs.Weights.{weigh_in, weigh_out, ended}
 use Rattle.model.specs.Guards.{Runs, Free}
-use Rattle.model.specs.Effects.End.{homeReport, end_published}
+use Rattle.model.specs.Effects.End.{home_report, end_published}
 use Rattle.model.specs.Inv.{Inv}
 use Rattle.model.specs.Inv.Messages as M
 use Rattle.model.specs.Inv.Cells as C
@@ -26,7 +26,7 @@ own_cell f h i j = rw (eq-eqb f f refl) (go (eqb h i) (eqb h j))
     go false true = refl
     go false false = refl
 
-module _ (s : State) (t k : ℕ) (inv : Inv s) (runs : Runs s t) (is-main : s.tasks.sent t ≡ 0) (not-fresh : s.finishes.published (s.tasks.finish t) ≡ 0 → ⊥)
+module _ (s : State) (t k : ℕ) (inv : Inv s) (runs : Runs s t) (is_main_lem : s.tasks.sent t ≡ 0) (not-fresh : s.finishes.published (s.tasks.finish t) ≡ 0 → ⊥)
     (is-active : s.finishes.status (s.tasks.finish t) ≡ 1) (free : Free s k) where
   -- the finish, its home, the report
   abbrev f₀ : ℕ
@@ -36,7 +36,7 @@ module _ (s : State) (t k : ℕ) (inv : Inv s) (runs : Runs s t) (is-main : s.ta
   h₀ = s.finishes.home f₀
 
   abbrev m₀ : Message
-  m₀ = homeReport f₀ h₀
+  m₀ = home_report f₀ h₀
 
   abbrev s' : State
   s' = end_published s t k
@@ -46,32 +46,32 @@ module _ (s : State) (t k : ℕ) (inv : Inv s) (runs : Runs s t) (is-main : s.ta
   s₁ = with_finish_status (upd s.finishes.status f₀ 3) (with_task_status (upd s.tasks.status t 7) s)
 
   made : (0 < f₀) × (f₀ ≤ s.finishes.made)
-  made = inv.finish-made f₀ (omega arith)
+  made = inv.finish_made_lem f₀ (omega arith)
 
   is_published_lem : s.finishes.published f₀ ≡ 1
-  is_published_lem = eq-cases (s.finishes.published f₀) 0 (λ e. absurd (not-fresh e)) (λ n. omega (arith, inv.published_mark f₀))
+  is_published_lem = eq_cases (s.finishes.published f₀) 0 (λ e. absurd (not-fresh e)) (λ n. omega (arith, inv.published_mark_lem f₀))
 
   by_row : Rows s t 0 s₁.tasks.status
   by_row P x a b c = upd-cases s.tasks.status P t 7 x a (λ n. c n (λ z _. omega arith))
 
   main_is : s.finishes.main f₀ ≡ t
-  main_is = (inv.main-tasks t runs.low runs.high is-main).2
+  main_is = (inv.main_tasks t runs.low runs.high is_main_lem).2
 
   ends : FinishTurned s₁
   ends = turns s f₀ 1 3 0 s₁.tasks.status inv is-active (omega arith) (λ q. omega arith) (omega arith) (omega arith) (omega arith)
       (λ _. rw main_is runs.running) (λ _. (is_published_lem, refl)) (λ e. absurd (omega arith)) (rw main_is by_row)
 
   -- no release of an active finish is on its way
-  no-release : (g : ℕ) → g ≡ f₀ → of_finish s 8 g ≡ 0
-  no-release g q = inv.release-none g (λ e. omega (arith, ap s.finishes.status q))
+  no_release : (g : ℕ) → g ≡ f₀ → of_finish s 8 g ≡ 0
+  no_release g q = inv.release-none g (λ e. omega (arith, ap s.finishes.status q))
 
   release_some : M.ReleaseSome s₁
   release_some g = upd-cases s.finishes.status (λ w. w ≡ 3 → of_finish s 8 g + s.books.present g ≡ 1) f₀ 3 g
-      (λ q _. omega (arith, no-release g q, inv.active-book f₀ is-active, is_published_lem, ap s.books.present q))
+      (λ q _. omega (arith, no_release g q, inv.active_book f₀ is-active, is_published_lem, ap s.books.present q))
       (λ _. inv.release_some g)
 
   release-none : M.ReleaseNone s₁
-  release-none g = upd-cases s.finishes.status (λ w. (w ≡ 3 → ⊥) → of_finish s 8 g ≡ 0) f₀ 3 g (λ q _. no-release g q) (λ _. inv.release-none g)
+  release-none g = upd-cases s.finishes.status (λ w. (w ≡ 3 → ⊥) → of_finish s 8 g ≡ 0) f₀ 3 g (λ q _. no_release g q) (λ _. inv.release-none g)
 
   rest : Aside s'
   rest = let e = ends in aside s₁ k m₀ free.range free.tag (λ q. omega arith) (λ q. omega arith) (λ q. omega arith) (omega arith) (search (release_some, release-none))
@@ -85,14 +85,14 @@ module _ (s : State) (t k : ℕ) (inv : Inv s) (runs : Runs s t) (is-main : s.ta
   names_finish : M.NamesFinish s'
   names_finish = W.each s₁ k m₀ free.range (M.NamesFinishOf s₁) inv.names_finish (λ _. made)
 
-  names_places : M.NamesPlaces s'
-  names_places = W.each s₁ k m₀ free.range (M.NamesPlacesOf s₁) inv.names_places (λ _. ((inv.finish_ranges f₀ made.0 made.1).0, omega (arith, inv.places)))
+  names-places : M.NamesPlaces s'
+  names-places = W.each s₁ k m₀ free.range (M.NamesPlacesOf s₁) inv.names-places (λ _. ((inv.finish_ranges f₀ made.0 made.1).0, omega (arith, inv.places)))
 
   report-counts : M.ReportCounts s'
-  report-counts = W.each s₁ k m₀ free.range (M.ReportCountsOf s₁) inv.report-counts (λ _. (h₀, omega (arith, on-true (eqb h₀ h₀) 1 (eq-eqb h₀ h₀ refl))))
+  report-counts = W.each s₁ k m₀ free.range (M.ReportCountsOf s₁) inv.report-counts (λ _. (h₀, omega (arith, on_true (eqb h₀ h₀) 1 (eq-eqb h₀ h₀ refl))))
 
-  report-book : M.ReportBook s'
-  report-book = W.each s₁ k m₀ free.range (M.ReportBookOf s₁) inv.report-book (λ _ _. inv.active-book f₀ is-active ∙ is_published_lem)
+  report_book : M.ReportBook s'
+  report_book = W.each s₁ k m₀ free.range (M.ReportBookOf s₁) inv.report_book (λ _ _. inv.active_book f₀ is-active ∙ is_published_lem)
 
   fresh_messages : M.FreshMessages s'
   fresh_messages = W.each s₁ k m₀ free.range (M.FreshMessagesOf s₁) inv.fresh_messages (λ _ _. is_published_lem)
@@ -101,46 +101,46 @@ module _ (s : State) (t k : ℕ) (inv : Inv s) (runs : Runs s t) (is-main : s.ta
   says : ℕ → ℕ → ℕ → ℕ
   says f i j = on (is₂ f₀ h₀ f j) (on (eqb h₀ i) 1)
 
-  reports-rise : (f i j : ℕ) → reports s' f i j ≡ reports s f i j + says f i j
+  reports_rise : (f i j : ℕ) → reports s' f i j ≡ reports s f i j + says f i j
   unfolding says
-  reports-rise f i j = rises s₁ k m₀ free.range free.tag (λ m. is₂ m.finish m.from f j) (λ m. m.counts i) (omega arith)
+  reports_rise f i j = rises s₁ k m₀ free.range free.tag (λ m. is₂ m.finish m.from f j) (λ m. m.counts i) (omega arith)
 
   -- the main task has ended
-  ended-rises : (f i j : ℕ) → ended s' f i j ≡ ended s f i j + says f i j
+  ended_rises : (f i j : ℕ) → ended s' f i j ≡ ended s f i j + says f i j
   unfolding says
-  ended-rises f i j = eq-cases f f₀
+  ended_rises f i j = eq_cases f f₀
       (λ q. rw (q, upd_same) (omega (
         arith,
         weigh_in (is₂ h₀ h₀ i j) 3 5 3 (omega arith) (omega arith),
         weigh_out (is₂ h₀ h₀ i j) 3 5 (s.finishes.status f₀) (λ l _. omega arith),
         own_cell f₀ h₀ i j,
       )))
-      (λ ne. rw (upd_other s.finishes.status f₀ 3 f ne) (omega (arith, on-false (is₂ f₀ h₀ f j) (on (eqb h₀ i) 1) (is₂-false f₀ h₀ f j (λ p _. ne (sym p))))))
+      (λ ne. rw (upd_other s.finishes.status f₀ 3 f ne) (omega (arith, on_false (is₂ f₀ h₀ f j) (on (eqb h₀ i) 1) (is₂_false f₀ h₀ f j (λ p _. ne (sym p))))))
 
   counted : C.Counted s'
-  counted f i j p l d = omega (arith, inv.counted f i j p l d, ended-rises f i j, reports-rise f i j)
+  counted f i j p l d = omega (arith, inv.counted f i j p l d, ended_rises f i j, reports_rise f i j)
 
   counted-denied : C.CountedDenied s'
-  counted-denied f i j p l d = omega (arith, inv.counted-denied f i j p l d, ended-rises f i j, reports-rise f i j, W.answered-same s₁ k m₀ free.range f i j (tag 11 (omega arith) (λ q. omega arith)))
+  counted-denied f i j p l d = omega (arith, inv.counted-denied f i j p l d, ended_rises f i j, reports_rise f i j, W.answered_same s₁ k m₀ free.range f i j (tag 11 (omega arith) (λ q. omega arith)))
 
   -- its own home's only
   own : (f i j : ℕ) → (i ≡ j → ⊥) → says f i j ≡ 0
   unfolding says
   own f i j n = is₂-cases f₀ h₀ f j
-      (λ _ q. rw (on-false (eqb h₀ i) 1 (ne_eqb h₀ i (λ r. n (sym r ∙ q)))) (on_zero (is₂ f₀ h₀ f j)))
-      (λ e. on-false (is₂ f₀ h₀ f j) (on (eqb h₀ i) 1) e)
+      (λ _ q. rw (on_false (eqb h₀ i) 1 (ne_eqb h₀ i (λ r. n (sym r ∙ q)))) (on_zero (is₂ f₀ h₀ f j)))
+      (λ e. on_false (is₂ f₀ h₀ f j) (on (eqb h₀ i) 1) e)
 
-  reports-most : L.ReportsMost s'
-  reports-most f i j l n = omega (arith, inv.reports-most f i j l n, reports-rise f i j, own f i j n)
+  reports_most : L.ReportsMost s'
+  reports_most f i j l n = omega (arith, inv.reports_most f i j l n, reports_rise f i j, own f i j n)
 
-  pub ends-published-keeps : Inv (end_published s t k)
-  ends-published-keeps = let e = ends in let r = rest in let n = tasks in search (
+  pub ends_published_keeps : Inv (end_published s t k)
+  ends_published_keeps = let e = ends in let r = rest in let n = tasks in search (
     names_finish,
-    names_places,
+    names-places,
     report-counts,
-    report-book,
+    report_book,
     fresh_messages,
     counted,
     counted-denied,
-    reports-most,
+    reports_most,
   )

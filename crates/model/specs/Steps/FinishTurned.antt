@@ -1,7 +1,7 @@
 -- A finish whose main task has ended waits for release now, or is released and its opener runs: what holds of both, before any slot is written.
 use Rattle.std.specs.Prelude.{◌≡◌, refl, Bool, true, false, ℕ, suc, ◌+◌, ◌≤◌, ◌<◌, eqb}
 use Rattle.std.proofs.Common.{sym, ap, ◌∙◌, arith, eq-eqb, ne_eqb}
-use Rattle.model.specs.Base.{upd, upd_other, upd-cases, on-true, on-false, is₂, is₃, is₃-false, sum-ext, sum-upd, eq-cases, bool_cases, both}
+use Rattle.model.specs.Base.{upd, upd_other, upd-cases, on_true, on_false, is₂, is₃, is₃_false, sum_ext, sum-upd, eq_cases, bool_cases, both}
 use Rattle.model.specs.State.{State, with_task_status, with_finish_status}
 use Rattle.model.specs.Weights.{weigh, weigh_in, weigh_out, weigh_off, weigh-le, tasks_with, finishes_with}
 use Rattle.model.specs.Inv.{Inv}
@@ -11,16 +11,16 @@ use Rattle.model.specs.Inv.Messages as M
 use Rattle.model.specs.Inv.Books as B
 use Rattle.model.specs.Inv.Cells as C
 use Rattle.model.specs.Inv.Locals as L
-use Rattle.model.specs.Facts.Openers.{not-skipped}
-use Rattle.model.specs.Facts.Publishing.{opens-none}
+use Rattle.model.specs.Facts.Openers.{not_skipped}
+use Rattle.model.specs.Facts.Publishing.{opens_none}
 
 -- what is shown
 pub record FinishTurned (s : State) : Type 0 where
   pub task_statuses : R.TaskStatuses s
   pub main_statuses : R.MainStatuses s
-  pub status-made : R.StatusMade s
+  pub status_made : R.StatusMade s
   pub finish_statuses : R.FinishStatuses s
-  pub finish-made : R.FinishMade s
+  pub finish_made_lem : R.FinishMade s
   pub active : T.Active s
   pub publishing : T.Publishing s
   pub waiting : T.Waiting s
@@ -29,7 +29,7 @@ pub record FinishTurned (s : State) : Type 0 where
   pub dead-home : T.DeadHome s
   pub busy : T.Busy s
   pub waiters : T.Waiters s
-  pub lost-tasks : T.LostTasks s
+  pub lost_tasks : T.LostTasks s
   pub first-task : T.FirstTask s
   pub first-lost : T.FirstLost s
   pub blocked : T.Blocked s
@@ -37,14 +37,14 @@ pub record FinishTurned (s : State) : Type 0 where
   pub published : M.Published s
   pub publish_some : M.PublishSome s
   pub transits : M.Transits s
-  pub lost-transits : M.LostTransits s
+  pub lost_transits : M.LostTransits s
   pub on_wire : M.OnWire s
   pub named_publish : M.NamedPublish s
   pub named_transit : M.NamedTransit s
-  pub book-unreleased : B.BookUnreleased s
-  pub active-book : B.ActiveBook s
+  pub book_unreleased : B.BookUnreleased s
+  pub active_book : B.ActiveBook s
   pub skipped : B.Skipped s
-  pub sent-tasks-most : C.SentTasksMost s
+  pub sent_tasks_most : C.SentTasksMost s
   pub local_live_lem : L.LocalLive s
 
 -- t has ended, the blocked task o (0 is none) runs, and every other task is as it was
@@ -63,51 +63,51 @@ module _ (s : State) (f₀ u v o : ℕ) (status : ℕ → ℕ) (inv : Inv s) (wa
   s' = with_finish_status (upd s.finishes.status f₀ v) (with_task_status status s)
 
   made : (0 < f₀) × (f₀ ≤ s.finishes.made)
-  made = inv.finish-made f₀ (omega arith)
+  made = inv.finish_made_lem f₀ (omega arith)
 
-  home-lives : s.dead (s.finishes.home f₀) ≡ false
-  home-lives = eq-cases u 1 (λ e. (inv.active f₀ (was-u ∙ e)).0) (λ n. (inv.waiting f₀ (omega arith)).0)
+  home_lives : s.dead (s.finishes.home f₀) ≡ false
+  home_lives = eq_cases u 1 (λ e. (inv.active f₀ (was-u ∙ e)).0) (λ n. (inv.waiting f₀ (omega arith)).0)
 
   -- the main task runs or has ended
-  t-was : (5 ≤ s.tasks.status t) × (s.tasks.status t ≤ 7) × (s.tasks.status t ≡ 6 → ⊥)
-  t-was = eq-cases u 1
+  t_was : (5 ≤ s.tasks.status t) × (s.tasks.status t ≤ 7) × (s.tasks.status t ≡ 6 → ⊥)
+  t_was = eq_cases u 1
       (λ e. let r = runs e in (omega arith, omega arith, λ q. omega arith))
       (λ n. let r = (inv.waiting f₀ (omega arith)).2 in (omega arith, omega arith, λ q. omega arith))
 
   t_made : (0 < t) × (t ≤ s.tasks.made)
-  t_made = inv.status-made t (omega (arith, t-was.0))
+  t_made = inv.status_made t (omega (arith, t_was.0))
 
-  is-main : s.tasks.sent t ≡ 0
-  is-main = (inv.mains f₀ made.0 made.1).1
+  is_main_lem : s.tasks.sent t ≡ 0
+  is_main_lem = (inv.mains f₀ made.0 made.1).1
 
   opener : 0 < o → (v ≡ 4) × (o ≡ s.finishes.opener f₀)
-  opener z = eq-cases v 3 (λ e. absurd (omega (arith, (waits e).1))) (λ n. let e : v ≡ 4 = omega arith in (e, (wakes e).1))
+  opener z = eq_cases v 3 (λ e. absurd (omega (arith, (waits e).1))) (λ n. let e : v ≡ 4 = omega arith in (e, (wakes e).1))
 
   -- the main task of another finish is another
-  main-other : (g : ℕ) → 0 < s.finishes.status g → (g ≡ f₀ → ⊥) → s.finishes.main g ≡ t → ⊥
-  main-other g h n q = let b = inv.finish-made g h in n (sym (inv.mains g b.0 b.1).0 ∙ ap s.tasks.finish q ∙ (inv.mains f₀ made.0 made.1).0)
+  main_other : (g : ℕ) → 0 < s.finishes.status g → (g ≡ f₀ → ⊥) → s.finishes.main g ≡ t → ⊥
+  main_other g h n q = let b = inv.finish_made_lem g h in n (sym (inv.mains g b.0 b.1).0 ∙ ap s.tasks.finish q ∙ (inv.mains f₀ made.0 made.1).0)
 
-  by-finish : (P : ℕ → Type 0) (g : ℕ) → (g ≡ f₀ → P v) → ((g ≡ f₀ → ⊥) → P (s.finishes.status g)) → P (s'.finishes.status g)
-  by-finish P g a b = upd-cases s.finishes.status P f₀ v g a b
+  by_finish : (P : ℕ → Type 0) (g : ℕ) → (g ≡ f₀ → P v) → ((g ≡ f₀ → ⊥) → P (s.finishes.status g)) → P (s'.finishes.status g)
+  by_finish P g a b = upd-cases s.finishes.status P f₀ v g a b
 
-  finish-was : (g w : ℕ) → s'.finishes.status g ≡ w → (w ≡ v → ⊥) → (s.finishes.status g ≡ w) × (g ≡ f₀ → ⊥)
-  finish-was g w e n = by-finish (λ y. y ≡ w → (s.finishes.status g ≡ w) × (g ≡ f₀ → ⊥)) g (λ _ q. absurd (n (sym q))) (λ ne q. (q, ne)) e
+  finish_was : (g w : ℕ) → s'.finishes.status g ≡ w → (w ≡ v → ⊥) → (s.finishes.status g ≡ w) × (g ≡ f₀ → ⊥)
+  finish_was g w e n = by_finish (λ y. y ≡ w → (s.finishes.status g ≡ w) × (g ≡ f₀ → ⊥)) g (λ _ q. absurd (n (sym q))) (λ ne q. (q, ne)) e
 
-  finish-stays : (g w : ℕ) → s.finishes.status g ≡ w → (w ≡ u → ⊥) → s'.finishes.status g ≡ w
-  finish-stays g w e n = upd_other s.finishes.status f₀ v g (λ q. n (sym e ∙ ap s.finishes.status q ∙ was-u)) ∙ e
+  finish_stays : (g w : ℕ) → s.finishes.status g ≡ w → (w ≡ u → ⊥) → s'.finishes.status g ≡ w
+  finish_stays g w e n = upd_other s.finishes.status f₀ v g (λ q. n (sym e ∙ ap s.finishes.status q ∙ was-u)) ∙ e
 
   -- a status of before other than 5 and 6 stays
   stays : (x w : ℕ) → s.tasks.status x ≡ w → (w ≡ 5 → ⊥) → (w ≡ 6 → ⊥) → status x ≡ w
   stays x w e n₅ n₆ = by_Row (λ y. y ≡ w) x
-      (λ q. eq-cases w 7 sym (λ n₇. absurd (omega (arith, t-was.0, t-was.1, ap s.tasks.status q))))
+      (λ q. eq_cases w 7 sym (λ n₇. absurd (omega (arith, t_was.0, t_was.1, ap s.tasks.status q))))
       (λ _ _ q. absurd (n₆ (sym e ∙ q)))
       (λ _ _. e)
 
   was : (x w : ℕ) → status x ≡ w → (w ≡ 7 → ⊥) → (w ≡ 5 → ⊥) → s.tasks.status x ≡ w
   was x w e n₇ n₅ = by_Row (λ y. y ≡ w → s.tasks.status x ≡ w) x (λ _ q. absurd (n₇ (sym q))) (λ _ _ _ q. absurd (n₅ (sym q))) (λ _ _ q. q) e
 
-  main-ended : status (s.finishes.main f₀) ≡ 7
-  main-ended = by_Row (λ w. w ≡ 7) t (λ _. refl) (λ _ _ q. absurd (t-was.2 q)) (λ n _. absurd (n refl))
+  main_ended : status (s.finishes.main f₀) ≡ 7
+  main_ended = by_Row (λ w. w ≡ 7) t (λ _. refl) (λ _ _ q. absurd (t_was.2 q)) (λ n _. absurd (n refl))
 
   task_statuses : R.TaskStatuses s'
   task_statuses x z l = by_Row (λ w. (0 < w) × (w ≤ 8)) x (λ _. omega arith) (λ _ _ _. omega arith) (λ _ _. inv.task_statuses x z l)
@@ -115,24 +115,24 @@ module _ (s : State) (f₀ u v o : ℕ) (status : ℕ → ℕ) (inv : Inv s) (wa
   main_statuses : R.MainStatuses s'
   main_statuses x z l e = by_Row (λ w. 5 ≤ w) x (λ _. omega arith) (λ _ _ _. omega arith) (λ _ _. inv.main_statuses x z l e)
 
-  status-made : R.StatusMade s'
-  status-made x = by_Row (λ w. 0 < w → (0 < x) × (x ≤ s.tasks.made)) x
+  status_made : R.StatusMade s'
+  status_made x = by_Row (λ w. 0 < w → (0 < x) × (x ≤ s.tasks.made)) x
       (λ q _. omega (arith, t_made))
-      (λ _ _ q _. inv.status-made x (omega arith))
-      (λ _ _. inv.status-made x)
+      (λ _ _ q _. inv.status_made x (omega arith))
+      (λ _ _. inv.status_made x)
 
   finish_statuses : R.FinishStatuses s'
-  finish_statuses g z l = by-finish (λ w. (0 < w) × (w ≤ 5)) g (λ _. omega arith) (λ _. inv.finish_statuses g z l)
+  finish_statuses g z l = by_finish (λ w. (0 < w) × (w ≤ 5)) g (λ _. omega arith) (λ _. inv.finish_statuses g z l)
 
-  finish-made : R.FinishMade s'
-  finish-made g = by-finish (λ w. 0 < w → (0 < g) × (g ≤ s.finishes.made)) g (λ q _. omega (arith, made)) (λ _. inv.finish-made g)
+  finish_made_lem : R.FinishMade s'
+  finish_made_lem g = by_finish (λ w. 0 < w → (0 < g) × (g ≤ s.finishes.made)) g (λ q _. omega (arith, made)) (λ _. inv.finish_made_lem g)
 
   active : T.Active s'
   active g e =
-      let w = finish-was g 1 e (λ q. omega arith) in
+      let w = finish_was g 1 e (λ q. omega arith) in
       let k = inv.active g w.0 in
       let b : (5 ≤ status (s.finishes.main g)) × (status (s.finishes.main g) ≤ 6) = by_Row (λ w. (5 ≤ w) × (w ≤ 6)) (s.finishes.main g)
-      (λ q. absurd (main-other g (omega (arith, w.0)) w.1 q))
+      (λ q. absurd (main_other g (omega (arith, w.0)) w.1 q))
       (λ _ _ _. omega arith)
       (λ _ _. (k.1, k.2)) in
       (k.0, b.0, b.1)
@@ -140,33 +140,33 @@ module _ (s : State) (f₀ u v o : ℕ) (status : ℕ → ℕ) (inv : Inv s) (wa
   -- the main task of a publishing finish is another than the opener
   publishing : T.Publishing s'
   publishing g e =
-      let w = finish-was g 2 e (λ q. omega arith) in
+      let w = finish_was g 2 e (λ q. omega arith) in
       let k = inv.publishing g w.0 in (
         k.0,
         k.1,
         by_Row (λ w. w ≡ 6) (s.finishes.main g)
-            (λ q. absurd (main-other g (omega (arith, w.0)) w.1 q))
-            (λ z q _. absurd (opens-none s inv g w.0 f₀ (omega arith) (omega arith) (omega (arith, opener z)) (q ∙ (opener z).1)))
+            (λ q. absurd (main_other g (omega (arith, w.0)) w.1 q))
+            (λ z q _. absurd (opens_none s inv g w.0 f₀ (omega arith) (omega arith) (omega (arith, opener z)) (q ∙ (opener z).1)))
             (λ _ _. k.2),
       )
 
   waiting : T.Waiting s'
-  waiting g = by-finish (λ w. w ≡ 3 → (s.dead (s.finishes.home g) ≡ false) × (s.finishes.published g ≡ 1) × (status (s.finishes.main g) ≡ 7)) g
-      (λ q e. rw q (home-lives, (waits e).0, main-ended))
+  waiting g = by_finish (λ w. w ≡ 3 → (s.dead (s.finishes.home g) ≡ false) × (s.finishes.published g ≡ 1) × (status (s.finishes.main g) ≡ 7)) g
+      (λ q e. rw q (home_lives, (waits e).0, main_ended))
       (λ _ e. let k = inv.waiting g e in (k.0, k.1, stays (s.finishes.main g) 7 k.2 (λ q. omega arith) (λ q. omega arith)))
 
   released : T.Released s'
-  released g = by-finish (λ w. w ≡ 4 → status (s.finishes.main g) ≡ 7) g
-      (λ q _. rw q main-ended)
+  released g = by_finish (λ w. w ≡ 4 → status (s.finishes.main g) ≡ 7) g
+      (λ q _. rw q main_ended)
       (λ _ e. stays (s.finishes.main g) 7 (inv.released g e) (λ q. omega arith) (λ q. omega arith))
 
   lost : T.Lost s'
   lost g e =
-      let k = inv.lost g (finish-was g 5 e (λ q. omega arith)).0 in
+      let k = inv.lost g (finish_was g 5 e (λ q. omega arith)).0 in
       (k.0, by_Row (λ w. 7 ≤ w) (s.finishes.main g) (λ _. omega arith) (λ _ _ q. absurd (omega (arith, k.1))) (λ _ _. k.1))
 
   dead-home : T.DeadHome s'
-  dead-home g z l d = by-finish (λ w. 4 ≤ w) g (λ q. both (rw q at d) home-lives) (λ _. inv.dead-home g z l d)
+  dead-home g z l d = by_finish (λ w. 4 ≤ w) g (λ q. both (rw q at d) home_lives) (λ _. inv.dead-home g z l d)
 
   busy : T.Busy s'
   busy x = by_Row (λ w. 5 ≤ w → w ≤ 6 → s.dead (s.tasks.at x) ≡ false) x
@@ -177,17 +177,17 @@ module _ (s : State) (f₀ u v o : ℕ) (status : ℕ → ℕ) (inv : Inv s) (wa
   waiters : T.Waiters s'
   waiters x = by_Row (λ w. 1 ≤ w → w ≤ 2 → s.dead (s.tasks.from x) ≡ false) x (λ _ _ h. absurd (omega arith)) (λ _ _ _ _ h. absurd (omega arith)) (λ _ _. inv.waiters x)
 
-  lost-tasks : T.LostTasks s'
-  lost-tasks x e = inv.lost-tasks x (was x 8 e (λ q. omega arith) (λ q. omega arith))
+  lost_tasks : T.LostTasks s'
+  lost_tasks x e = inv.lost_tasks x (was x 8 e (λ q. omega arith) (λ q. omega arith))
 
   -- the finish, being active, has no sent task if it is unpublished
   first-task : T.FirstTask s'
   first-task x e p n₅ =
-      let k = inv.first-task x e p (λ q. n₅ (finish-stays (s.tasks.finish x) 5 q (λ q. omega arith))) in
-      (finish-stays (s.tasks.finish x) 2 k.0 (λ q. omega arith), stays x 1 k.1 (λ q. omega arith) (λ q. omega arith), k.2)
+      let k = inv.first-task x e p (λ q. n₅ (finish_stays (s.tasks.finish x) 5 q (λ q. omega arith))) in
+      (finish_stays (s.tasks.finish x) 2 k.0 (λ q. omega arith), stays x 1 k.1 (λ q. omega arith) (λ q. omega arith), k.2)
 
   first-lost : T.FirstLost s'
-  first-lost x e p q₅ = stays x 8 (inv.first-lost x e p (finish-was (s.tasks.finish x) 5 q₅ (λ q. omega arith)).0) (λ q. omega arith) (λ q. omega arith)
+  first-lost x e p q₅ = stays x 8 (inv.first-lost x e p (finish_was (s.tasks.finish x) 5 q₅ (λ q. omega arith)).0) (λ q. omega arith) (λ q. omega arith)
 
   publishes : M.Publishes s'
   publishes k h e =
@@ -195,24 +195,24 @@ module _ (s : State) (f₀ u v o : ℕ) (status : ℕ → ℕ) (inv : Inv s) (wa
       let r = inv.publishes k h e in (
         r.0,
         r.1,
-        (λ a. (finish-stays m.finish 2 (r.2 a).0 (λ q. omega arith), stays m.task 1 (r.2 a).1 (λ q. omega arith) (λ q. omega arith))),
-        (λ d. finish-stays m.finish 5 (r.3 d) (λ q. omega arith)),
+        (λ a. (finish_stays m.finish 2 (r.2 a).0 (λ q. omega arith), stays m.task 1 (r.2 a).1 (λ q. omega arith) (λ q. omega arith))),
+        (λ d. finish_stays m.finish 5 (r.3 d) (λ q. omega arith)),
       )
 
   published : M.Published s'
   published k h e =
       let m = s.slot k in
       let r = inv.published k h e in
-      (r.0, r.1, finish-stays m.finish 2 r.2 (λ q. omega arith), stays m.task 1 r.3 (λ q. omega arith) (λ q. omega arith))
+      (r.0, r.1, finish_stays m.finish 2 r.2 (λ q. omega arith), stays m.task 1 r.3 (λ q. omega arith) (λ q. omega arith))
 
   publish_some : M.PublishSome s'
-  publish_some g e = inv.publish_some g (finish-was g 2 e (λ q. omega arith)).0
+  publish_some g e = inv.publish_some g (finish_was g 2 e (λ q. omega arith)).0
 
   transits : M.Transits s'
   transits k h l m a = let r = inv.transits k h l m a in (stays (s.slot k).task 2 r.0 (λ q. omega arith) (λ q. omega arith), r.1)
 
-  lost-transits : M.LostTransits s'
-  lost-transits k h l m a = let r = inv.lost-transits k h l m a in (r.0, stays (s.slot k).task 8 r.1 (λ q. omega arith) (λ q. omega arith))
+  lost_transits : M.LostTransits s'
+  lost_transits k h l m a = let r = inv.lost_transits k h l m a in (r.0, stays (s.slot k).task 8 r.1 (λ q. omega arith) (λ q. omega arith))
 
   on_wire : M.OnWire s'
   on_wire k h e = let r = inv.on_wire k h e in (stays (s.slot k).task 3 r.0 (λ q. omega arith) (λ q. omega arith), r.1)
@@ -223,13 +223,13 @@ module _ (s : State) (f₀ u v o : ℕ) (status : ℕ → ℕ) (inv : Inv s) (wa
   named_transit : M.NamedTransit s'
   named_transit x e = inv.named_transit x (was x 2 e (λ q. omega arith) (λ q. omega arith))
 
-  book-unreleased : B.BookUnreleased s'
-  book-unreleased g p = by-finish (λ w. w ≡ 4 → ⊥) g
+  book_unreleased : B.BookUnreleased s'
+  book_unreleased g p = by_finish (λ w. w ≡ 4 → ⊥) g
       (λ q e. omega (arith, (wakes e).0, ap s.books.present q))
-      (λ _. inv.book-unreleased g p)
+      (λ _. inv.book_unreleased g p)
 
-  active-book : B.ActiveBook s'
-  active-book g e = inv.active-book g (finish-was g 1 e (λ q. omega arith)).0
+  active_book : B.ActiveBook s'
+  active_book g e = inv.active_book g (finish_was g 1 e (λ q. omega arith)).0
 
   -- the finish is not between a book and its parent: it waited for release, or its main task runs
   skipped : B.Skipped s'
@@ -237,13 +237,13 @@ module _ (s : State) (f₀ u v o : ℕ) (status : ℕ → ℕ) (inv : Inv s) (wa
       let r = inv.skipped g x p above w n₁ n₂ in
       let other : x ≡ f₀ → ⊥ = λ q. bool_cases (s.dead (s.finishes.home g))
       (λ d. omega (arith, r.4 d, ap s.finishes.status q))
-      (λ a. not-skipped s inv g x p a above w n₁ n₂ (omega (arith, made)) (ap s.tasks.status (ap s.finishes.main q) ∙ runs (sym was-u ∙ ap s.finishes.status (sym q) ∙ r.3 a))) in
+      (λ a. not_skipped s inv g x p a above w n₁ n₂ (omega (arith, made)) (ap s.tasks.status (ap s.finishes.main q) ∙ runs (sym was-u ∙ ap s.finishes.status (sym q) ∙ r.3 a))) in
       rw (upd_other s.finishes.status f₀ v x other) r
 
   -- a sum over the tasks that counts running as blocked, and t ended as before
   same_sum : (key : ℕ → Bool) (lo hi : ℕ) → weigh (key t) lo hi 7 ≡ weigh (key t) lo hi (s.tasks.status t) → ((x : ℕ) → weigh (key x) lo hi 5 ≡ weigh (key x) lo hi 6)
       → tasks_with s' key lo hi ≡ tasks_with s key lo hi
-  same_sum key lo hi at-end alike = sum-ext (suc s.tasks.made) (λ x. weigh (key x) lo hi (s.tasks.status x)) (λ x. weigh (key x) lo hi (status x))
+  same_sum key lo hi at-end alike = sum_ext (suc s.tasks.made) (λ x. weigh (key x) lo hi (s.tasks.status x)) (λ x. weigh (key x) lo hi (status x))
       (λ x _. by_Row (λ w. weigh (key x) lo hi w ≡ weigh (key x) lo hi (s.tasks.status x)) x
       (λ q. rw q at-end)
       (λ _ _ q. rw q (alike x))
@@ -255,57 +255,57 @@ module _ (s : State) (f₀ u v o : ℕ) (status : ℕ → ℕ) (inv : Inv s) (wa
       let key : ℕ → Bool = λ x. is₂ (s.tasks.sent x) (s.tasks.maker x) 1 b in
       let opens : ℕ → Bool = λ g. eqb (s.finishes.opener g) b in
       let out : (x w : ℕ) → 2 < w → weigh (key x) 1 2 w ≡ 0 = λ x w l. weigh_out (key x) 1 2 w (λ _ h. omega arith) in
-      let spawned = same_sum key 1 2 (out t 7 (omega arith) ∙ sym (out t (s.tasks.status t) (omega (arith, t-was.0)))) (λ x. out x 5 (omega arith) ∙ sym (out x 6 (omega arith))) in
+      let spawned = same_sum key 1 2 (out t 7 (omega arith) ∙ sym (out t (s.tasks.status t) (omega (arith, t_was.0)))) (λ x. out x 5 (omega arith) ∙ sym (out x 6 (omega arith))) in
       let opened = sum-upd (suc s.finishes.made) (λ g w. weigh (opens g) 1 3 w) s.finishes.status f₀ v (omega (arith, made)) in
-      let was-in = weigh_in (opens f₀) 1 3 (s.finishes.status f₀) (omega arith) (omega arith) in
+      let was_in = weigh_in (opens f₀) 1 3 (s.finishes.status f₀) (omega arith) (omega arith) in
       by_Row (λ w. weigh true 6 6 w ≡ tasks_with s' key 1 2 + finishes_with s' opens 1 3) b
       (λ q. omega (
         arith,
         spawned,
         opened,
-        was-in,
+        was_in,
         weigh-le (opens f₀) 1 3 v,
         inv.blocked b h,
         weigh_out true 6 6 7 (λ _ l. omega arith),
-        weigh_out true 6 6 (s.tasks.status b) (λ l h. t-was.2 (omega (arith, ap s.tasks.status q))),
+        weigh_out true 6 6 (s.tasks.status b) (λ l h. t_was.2 (omega (arith, ap s.tasks.status q))),
       ))
       (λ z q q₆. omega (
         arith,
         spawned,
         opened,
-        was-in,
+        was_in,
         weigh_out (opens f₀) 1 3 v (λ _ l. omega (arith, (opener z).0)),
         inv.blocked b h,
-        on-true (opens f₀) 1 (eq-eqb (s.finishes.opener f₀) b (sym (q ∙ (opener z).1))),
+        on_true (opens f₀) 1 (eq-eqb (s.finishes.opener f₀) b (sym (q ∙ (opener z).1))),
         weigh_out true 6 6 5 (λ l _. omega arith),
         weigh_in true 6 6 (s.tasks.status b) (omega arith) (omega arith),
-        on-true true 1 refl,
+        on_true true 1 refl,
       ))
-      (λ _ ne. eq-cases v 3
-      (λ e. omega (arith, spawned, opened, was-in, weigh_in (opens f₀) 1 3 v (omega arith) (omega arith), inv.blocked b h))
+      (λ _ ne. eq_cases v 3
+      (λ e. omega (arith, spawned, opened, was_in, weigh_in (opens f₀) 1 3 v (omega arith) (omega arith), inv.blocked b h))
       (λ n₃.
       let e = (wakes (omega arith)).1 in
       omega (
         arith,
         spawned,
         opened,
-        was-in,
+        was_in,
         weigh-le (opens f₀) 1 3 v,
         inv.blocked b h,
-        on-false (opens f₀) 1 (ne_eqb (s.finishes.opener f₀) b (λ q. ne (omega arith) (sym (e ∙ q)))),
+        on_false (opens f₀) 1 (ne_eqb (s.finishes.opener f₀) b (λ q. ne (omega arith) (sym (e ∙ q)))),
       )))
 
-  sent-tasks-most : C.SentTasksMost s'
-  sent-tasks-most f i j ne =
+  sent_tasks_most : C.SentTasksMost s'
+  sent_tasks_most f i j ne =
       let key : ℕ → Bool = λ x. is₃ (s.tasks.finish x) (s.tasks.from x) (s.tasks.at x) f i j in
       let all : (x w : ℕ) → 2 ≤ w → w ≤ 8 → weigh (key x) 2 8 w ≡ weigh (key x) 2 8 5 = λ x w l h. weigh_in (key x) 2 8 w l h ∙ sym (weigh_in (key x) 2 8 5 (omega arith) (omega arith)) in
-      omega (arith, inv.sent-tasks-most f i j ne, same_sum key 2 8 (all t 7 (omega arith) (omega arith) ∙ sym (all t (s.tasks.status t) (omega (arith, t-was.0)) (omega (arith, t-was.1)))) (λ x. sym (all x 6 (omega arith) (omega arith))))
+      omega (arith, inv.sent_tasks_most f i j ne, same_sum key 2 8 (all t 7 (omega arith) (omega arith) ∙ sym (all t (s.tasks.status t) (omega (arith, t_was.0)) (omega (arith, t_was.1)))) (λ x. sym (all x 6 (omega arith) (omega arith))))
 
   -- a main task is not counted
   local_live_lem : L.LocalLive s'
   local_live_lem f j =
       let key : ℕ → Bool = λ x. is₃ (s.tasks.sent x) (s.tasks.finish x) (s.tasks.at x) 1 f j in
-      let off : key t ≡ false = is₃-false (s.tasks.sent t) (s.tasks.finish t) (s.tasks.at t) 1 f j (λ e _ _. omega (arith, is-main)) in
+      let off : key t ≡ false = is₃_false (s.tasks.sent t) (s.tasks.finish t) (s.tasks.at t) 1 f j (λ e _ _. omega (arith, is_main_lem)) in
       omega (
         arith,
         inv.local_live_lem f j,
@@ -317,9 +317,9 @@ module _ (s : State) (f₀ u v o : ℕ) (status : ℕ → ℕ) (inv : Inv s) (wa
   turns = search (
     task_statuses,
     main_statuses,
-    status-made,
+    status_made,
     finish_statuses,
-    finish-made,
+    finish_made_lem,
     active,
     publishing,
     waiting,
@@ -328,7 +328,7 @@ module _ (s : State) (f₀ u v o : ℕ) (status : ℕ → ℕ) (inv : Inv s) (wa
     dead-home,
     busy,
     waiters,
-    lost-tasks,
+    lost_tasks,
     first-task,
     first-lost,
     blocked,
@@ -336,13 +336,13 @@ module _ (s : State) (f₀ u v o : ℕ) (status : ℕ → ℕ) (inv : Inv s) (wa
     published,
     publish_some,
     transits,
-    lost-transits,
+    lost_transits,
     on_wire,
     named_publish,
     named_transit,
-    book-unreleased,
-    active-book,
+    book_unreleased,
+    active_book,
     skipped,
-    sent-tasks-most,
+    sent_tasks_most,
     local_live_lem,
   )

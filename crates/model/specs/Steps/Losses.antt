@@ -6,16 +6,16 @@ use Rattle.std.proofs.Math.Bool.{true, false, cond, not}
 use native.Mathlib.Omega.{arith}
 use Rattle.std.proofs.Math.Dec.{eqb}
 use borrow.Author.Tests.{eqb-true, eq-eqb, ne_eqb}
-use Rattle.model.specs.Base.{sum, sum-ge, sum-some, eq-cases, both, and_left, and_right, or_cases, cond_cases}
+use Rattle.model.specs.Base.{sum, sum_ge, sum_some, eq_cases, both, and_left, and_right, or_cases, cond_cases}
 use Rattle.model.specs.State.{Message}
 use Rattle.model.specs.Messages.{goes_to}
-use Rattle.model.specs.Effects.Kill.{loses_task, loses_finish, emptyColumn, dueAfter}
+use Rattle.model.specs.Effects.Kill.{loses_task, loses_finish, empty_column, due_after}
 
 module _ (p from at status : ℕ) where
   -- a task that is lost was busy at the place, or waited and is from it
-  pub loses-cases : {P : Type 0} → loses_task p from at status ≡ true → (5 ≤ status → status ≤ 6 → at ≡ p → P) → (1 ≤ status → status ≤ 2 → from ≡ p → P) → P
+  pub loses_cases : {P : Type 0} → loses_task p from at status ≡ true → (5 ≤ status → status ≤ 6 → at ≡ p → P) → (1 ≤ status → status ≤ 2 → from ≡ p → P) → P
   unfolding loses_task
-  loses-cases {P} e busy waits = or_cases ((eqb status 5 || eqb status 6) && eqb at p) ((eqb status 1 || eqb status 2) && eqb from p) e
+  loses_cases {P} e busy waits = or_cases ((eqb status 5 || eqb status 6) && eqb at p) ((eqb status 1 || eqb status 2) && eqb from p) e
       (λ b.
       let q = eqb-true at p (and_right (eqb status 5 || eqb status 6) (eqb at p) b) in
       or_cases (eqb status 5) (eqb status 6) (and_left (eqb status 5 || eqb status 6) (eqb at p) b)
@@ -27,48 +27,48 @@ module _ (p from at status : ℕ) where
       (λ v. let w = eqb-true status 1 v in waits (omega arith) (omega arith) q)
       (λ v. let w = eqb-true status 2 v in waits (omega arith) (omega arith) q))
 
-  pub loses-busy : 5 ≤ status → status ≤ 6 → at ≡ p → loses_task p from at status ≡ true
+  pub loses_busy : 5 ≤ status → status ≤ 6 → at ≡ p → loses_task p from at status ≡ true
   unfolding loses_task
-  loses-busy l h q = eq-cases status 5
+  loses_busy l h q = eq_cases status 5
       (λ e. rw (e, eq-eqb at p q))
       (λ n. let e : status ≡ 6 = omega arith in rw (e, eq-eqb at p q))
 
-  pub loses-waiting : 1 ≤ status → status ≤ 2 → from ≡ p → loses_task p from at status ≡ true
+  pub loses_waiting : 1 ≤ status → status ≤ 2 → from ≡ p → loses_task p from at status ≡ true
   unfolding loses_task
-  loses-waiting l h q = eq-cases status 1
+  loses_waiting l h q = eq_cases status 1
       (λ e. rw (e, eq-eqb from p q))
       (λ n. let e : status ≡ 2 = omega arith in rw (e, eq-eqb from p q))
 
 module _ (p home status : ℕ) where
-  pub loses-home : loses_finish p home status ≡ true → (home ≡ p) × (status ≡ 4 → ⊥)
+  pub loses_home : loses_finish p home status ≡ true → (home ≡ p) × (status ≡ 4 → ⊥)
   unfolding loses_finish
-  loses-home e = (eqb-true home p (and_left (eqb home p) (not (eqb status 4)) e), λ q. both (and_right (eqb home p) (not (eqb status 4)) e) (rw (eq-eqb status 4 q)))
+  loses_home e = (eqb-true home p (and_left (eqb home p) (not (eqb status 4)) e), λ q. both (and_right (eqb home p) (not (eqb status 4)) e) (rw (eq-eqb status 4 q)))
 
-  pub loses-unreleased : home ≡ p → (status ≡ 4 → ⊥) → loses_finish p home status ≡ true
+  pub loses_unreleased : home ≡ p → (status ≡ 4 → ⊥) → loses_finish p home status ≡ true
   unfolding loses_finish
-  loses-unreleased q n = rw (eq-eqb home p q, ne_eqb status 4 n)
+  loses_unreleased q n = rw (eq-eqb home p q, ne_eqb status 4 n)
 
 module _ (n present : ℕ) (live : ℕ → ℕ → ℕ) (due p : ℕ) where
   -- due after the kill was due before, or has a count in the column
-  pub due-cases : {P : Type 0} → dueAfter n present live due p ≡ 1 → (due ≡ 1 → P) → ((i : ℕ) → 0 < live i p → P) → P
-  unfolding dueAfter emptyColumn
-  due-cases {P} e was new = cond_cases (λ w. w ≡ 1 → P) (eqb present 1 && not (eqb (sum n (λ i. live i p)) 0)) 1 due
-      (λ b _. eq-cases (sum n (λ i. live i p)) 0
+  pub due_cases : {P : Type 0} → due_after n present live due p ≡ 1 → (due ≡ 1 → P) → ((i : ℕ) → 0 < live i p → P) → P
+  unfolding due_after empty_column
+  due_cases {P} e was new = cond_cases (λ w. w ≡ 1 → P) (eqb present 1 && not (eqb (sum n (λ i. live i p)) 0)) 1 due
+      (λ b _. eq_cases (sum n (λ i. live i p)) 0
       (λ z. both (and_right (eqb present 1) (not (eqb (sum n (λ i. live i p)) 0)) b) (rw (eq-eqb (sum n (λ i. live i p)) 0 z)))
-      (λ k. let r = sum-some n (λ i. live i p) (omega arith) in new r.0 r.2))
+      (λ k. let r = sum_some n (λ i. live i p) (omega arith) in new r.0 r.2))
       (λ _ q. was q) e
 
-  pub due-column : present ≡ 1 → (i : ℕ) → i < n → 0 < live i p → dueAfter n present live due p ≡ 1
-  unfolding dueAfter emptyColumn
-  due-column q i h l = rw (eq-eqb present 1 q, ne_eqb (sum n (λ i. live i p)) 0 (λ z. omega (arith, sum-ge n (λ i. live i p) i h)))
+  pub due_column : present ≡ 1 → (i : ℕ) → i < n → 0 < live i p → due_after n present live due p ≡ 1
+  unfolding due_after empty_column
+  due_column q i h l = rw (eq-eqb present 1 q, ne_eqb (sum n (λ i. live i p)) 0 (λ z. omega (arith, sum_ge n (λ i. live i p) i h)))
 
-  pub due-stays : due ≡ 1 → dueAfter n present live due p ≡ 1
-  unfolding dueAfter
-  due-stays e = cond_cases (λ w. w ≡ 1) (eqb present 1 && not (emptyColumn n live p)) 1 due (λ _. refl) (λ _. e)
+  pub due_stays : due ≡ 1 → due_after n present live due p ≡ 1
+  unfolding due_after
+  due_stays e = cond_cases (λ w. w ≡ 1) (eqb present 1 && not (empty_column n live p)) 1 due (λ _. refl) (λ _. e)
 
-  pub due-most : due ≤ 1 → dueAfter n present live due p ≤ 1
-  unfolding dueAfter
-  due-most h = cond_cases (λ w. w ≤ 1) (eqb present 1 && not (emptyColumn n live p)) 1 due (λ _. omega arith) (λ _. h)
+  pub due_most : due ≤ 1 → due_after n present live due p ≤ 1
+  unfolding due_after
+  due_most h = cond_cases (λ w. w ≤ 1) (eqb present 1 && not (empty_column n live p)) 1 due (λ _. omega arith) (λ _. h)
 
 module _ (home : ℕ → ℕ) (m : Message) (p : ℕ) where
   -- a message that vanishes goes to the place
@@ -90,15 +90,15 @@ module _ (home : ℕ → ℕ) (m : Message) (p : ℕ) where
       go false ea false eb false ec false ed false eg false eh q = both q refl
 
   -- by its tag: to its finish's home, its from, its to; or to the store, which is no place
-  pub going-home : goes_to home m p ≡ true → (4 ≤ m.tag → m.tag ≤ 6 → ⊥) → (m.tag ≡ 10 → ⊥) → home m.finish ≡ p
-  going-home g n k = goes-cases g (λ _ q. q) (λ _ q. q) (λ l h _. absurd (n l (omega arith))) (λ e _. absurd (n (omega arith) (omega arith))) (λ e _. absurd (k e))
+  pub going_home : goes_to home m p ≡ true → (4 ≤ m.tag → m.tag ≤ 6 → ⊥) → (m.tag ≡ 10 → ⊥) → home m.finish ≡ p
+  going_home g n k = goes-cases g (λ _ q. q) (λ _ q. q) (λ l h _. absurd (n l (omega arith))) (λ e _. absurd (n (omega arith) (omega arith))) (λ e _. absurd (k e))
 
-  pub going-from : goes_to home m p ≡ true → 4 ≤ m.tag → m.tag ≤ 5 → m.from ≡ p
-  going-from g l h = goes-cases g (λ e _. absurd (omega arith)) (λ e _. absurd (omega arith)) (λ _ _ q. q) (λ e _. absurd (omega arith)) (λ e _. absurd (omega arith))
+  pub going_from : goes_to home m p ≡ true → 4 ≤ m.tag → m.tag ≤ 5 → m.from ≡ p
+  going_from g l h = goes-cases g (λ e _. absurd (omega arith)) (λ e _. absurd (omega arith)) (λ _ _ q. q) (λ e _. absurd (omega arith)) (λ e _. absurd (omega arith))
 
-  pub going-to : goes_to home m p ≡ true → (m.tag ≡ 6) ⊎ (m.tag ≡ 10) → m.to ≡ p
-  going-to g (inl t) = goes-cases g (λ e _. absurd (omega arith)) (λ e _. absurd (omega arith)) (λ _ h _. absurd (omega arith)) (λ _ q. q) (λ _ q. q)
-  going-to g (inr t) = goes-cases g (λ e _. absurd (omega arith)) (λ e _. absurd (omega arith)) (λ _ h _. absurd (omega arith)) (λ _ q. q) (λ _ q. q)
+  pub going_to : goes_to home m p ≡ true → (m.tag ≡ 6) ⊎ (m.tag ≡ 10) → m.to ≡ p
+  going_to g (inl t) = goes-cases g (λ e _. absurd (omega arith)) (λ e _. absurd (omega arith)) (λ _ h _. absurd (omega arith)) (λ _ q. q) (λ _ q. q)
+  going_to g (inr t) = goes-cases g (λ e _. absurd (omega arith)) (λ e _. absurd (omega arith)) (λ _ h _. absurd (omega arith)) (λ _ q. q) (λ _ q. q)
 
   pub stored : goes_to home m p ≡ true → (m.tag ≡ 2 → ⊥) → (m.tag ≡ 8 → ⊥) → (4 ≤ m.tag → m.tag ≤ 6 → ⊥) → (m.tag ≡ 10 → ⊥) → ⊥
   stored g a b c d = goes-cases g (λ e _. a e) (λ e _. b e) (λ l h _. c l (omega arith)) (λ e _. c (omega arith) (omega arith)) (λ e _. d e)
@@ -108,9 +108,9 @@ module _ (home : ℕ → ℕ) (m : Message) (p : ℕ) where
   goes-home (inl e) q = rw (e, eq-eqb (home m.finish) p q)
   goes-home (inr e) q = rw (e, eq-eqb (home m.finish) p q)
 
-  pub goes-from : 4 ≤ m.tag → m.tag ≤ 5 → m.from ≡ p → goes_to home m p ≡ true
+  pub goes_from : 4 ≤ m.tag → m.tag ≤ 5 → m.from ≡ p → goes_to home m p ≡ true
   unfolding goes_to
-  goes-from l h q = eq-cases m.tag 4
+  goes_from l h q = eq_cases m.tag 4
       (λ e. rw (e, eq-eqb m.from p q))
       (λ n. let e : m.tag ≡ 5 = omega arith in rw (e, eq-eqb m.from p q))
 

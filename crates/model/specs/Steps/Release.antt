@@ -1,17 +1,17 @@
 -- The deliver of a release (8) keeps the invariant: the finish that waited has no book, and its opener was blocked by it alone.
 use Rattle.std.specs.Prelude.{◌≡◌, refl, ℕ, ◌≤◌, ◌<◌, eqb}
 use Rattle.std.proofs.Common.{sym, ap, ◌∙◌, arith, eq-eqb, ne_eqb}
-use Rattle.model.specs.Base.{upd, upd-cases, on-true, is₂, eq-cases}
+use Rattle.model.specs.Base.{upd, upd-cases, on_true, is₂, eq_cases}
 use Rattle.model.specs.State.{State, with_task_status, with_finish_status}
 use Rattle.model.specs.Messages.{none, tally_is, tally_away, of_finish}
 use Rattle.model.specs.Weights.{weigh, weigh_in, ended}
 use Rattle.model.specs.Guards.{Full, MayRun}
-use Rattle.model.specs.Effects.End.{wake, wake-none, wake-some}
+use Rattle.model.specs.Effects.End.{wake, wake-none, wake_some}
 use Rattle.model.specs.Effects.Deliver.{deliver_release}
 use Rattle.model.specs.Inv.{Inv}
 use Rattle.model.specs.Inv.Messages as M
 use Rattle.model.specs.Inv.Cells as C
-use Rattle.model.specs.Facts.InFlight.{tallied-ge}
+use Rattle.model.specs.Facts.InFlight.{tallied_ge}
 use Rattle.model.specs.Steps.Written as W
 use Rattle.model.specs.Steps.FinishTurned.{FinishTurned, Rows, turns}
 use Rattle.model.specs.Steps.Emptied as D
@@ -36,27 +36,27 @@ module _ (s : State) (k : ℕ) (inv : Inv s) (full : Full s k 8) (waits : s.fini
 
   -- no book, and no other release
   alone : (of_finish s 8 f₀ ≡ 1) × (s.books.present f₀ ≡ 0)
-  alone = omega (arith, inv.release_some f₀ waits, tallied-ge s k 8 (λ m. eqb m.finish f₀) (λ m. 1) full.range full.tag (eq-eqb f₀ f₀ refl))
+  alone = omega (arith, inv.release_some f₀ waits, tallied_ge s k 8 (λ m. eqb m.finish f₀) (λ m. 1) full.range full.tag (eq-eqb f₀ f₀ refl))
 
   -- the opener, if any, runs; every other task is as it was
   by_row : (P : ℕ → Type 0) (x : ℕ) → (0 < o → x ≡ o → s.tasks.status x ≡ 6 → P 5) → ((0 < o → x ≡ o → ⊥) → P (s.tasks.status x)) → P (s'.tasks.status x)
-  by_row P x a b = eq-cases o 0
+  by_row P x a b = eq_cases o 0
       (λ e. rw (wake-none o s.tasks.status x e) (b (λ z _. omega arith)))
-      (λ n. rw (wake-some o s.tasks.status x (omega arith))
+      (λ n. rw (wake_some o s.tasks.status x (omega arith))
       (upd-cases s.tasks.status P o 5 x (λ q. a (omega arith) q (ap s.tasks.status q ∙ may_run_lem (omega arith))) (λ ne. b (λ _. ne))))
 
   rows : Rows s (s.finishes.main f₀) o s₁.tasks.status
-  rows P x a b c = by_row P x b (λ n. eq-cases x (s.finishes.main f₀) (λ q. rw (ap s.tasks.status q ∙ (inv.waiting f₀ waits).2) (a q)) (λ ne. c ne n))
+  rows P x a b c = by_row P x b (λ n. eq_cases x (s.finishes.main f₀) (λ q. rw (ap s.tasks.status q ∙ (inv.waiting f₀ waits).2) (a q)) (λ ne. c ne n))
 
   turned : FinishTurned s₁
   turned = turns s f₀ 3 4 o s₁.tasks.status inv waits (omega arith) (λ q. omega arith) (omega arith) (omega arith) (omega arith)
       (λ e. absurd (omega arith)) (λ e. absurd (omega arith)) (λ _. (alone.1, refl)) rows
 
-  by-finish : (P : ℕ → Type 0) (g : ℕ) → (g ≡ f₀ → P 4) → ((g ≡ f₀ → ⊥) → P (s.finishes.status g)) → P (s'.finishes.status g)
-  by-finish P g a b = upd-cases s.finishes.status P f₀ 4 g a b
+  by_finish : (P : ℕ → Type 0) (g : ℕ) → (g ≡ f₀ → P 4) → ((g ≡ f₀ → ⊥) → P (s.finishes.status g)) → P (s'.finishes.status g)
+  by_finish P g a b = upd-cases s.finishes.status P f₀ 4 g a b
 
-  finish-was : (g v : ℕ) → s'.finishes.status g ≡ v → (v ≡ 4 → ⊥) → (s.finishes.status g ≡ v) × (g ≡ f₀ → ⊥)
-  finish-was g v e n = by-finish (λ w. w ≡ v → (s.finishes.status g ≡ v) × (g ≡ f₀ → ⊥)) g (λ _ q. absurd (n (sym q))) (λ ne q. (q, ne)) e
+  finish_was : (g v : ℕ) → s'.finishes.status g ≡ v → (v ≡ 4 → ⊥) → (s.finishes.status g ≡ v) × (g ≡ f₀ → ⊥)
+  finish_was g v e n = by_finish (λ w. w ≡ v → (s.finishes.status g ≡ v) × (g ≡ f₀ → ⊥)) g (λ _ q. absurd (n (sym q))) (λ ne q. (q, ne)) e
 
   publish_some : M.PublishSome s'
   publish_some = W.publish_some s₁ k none full.range (other_tag 1 (omega arith) (λ q. omega arith)) (other_tag 2 (omega arith) (λ q. omega arith)) turned.publish_some
@@ -73,7 +73,7 @@ module _ (s : State) (k : ℕ) (inv : Inv s) (full : Full s k 8) (waits : s.fini
 
   release_some : M.ReleaseSome s'
   release_some g e =
-      let w = finish-was g 3 e (λ q. omega arith) in
+      let w = finish_was g 3 e (λ q. omega arith) in
       omega (
         arith,
         inv.release_some g w.0,
@@ -82,15 +82,15 @@ module _ (s : State) (k : ℕ) (inv : Inv s) (full : Full s k 8) (waits : s.fini
       )
 
   release-none : M.ReleaseNone s'
-  release-none g = by-finish (λ w. (w ≡ 3 → ⊥) → of_finish s' 8 g ≡ 0) g
-      (λ q _. rw q (omega (arith, alone, D.falls s k full.range 8 (λ m. eqb m.finish f₀) (λ m. 1) (omega arith), tally_is 8 (s.slot k) (eqb f₀ f₀) 1 full.tag, on-true (eqb f₀ f₀) 1 (eq-eqb f₀ f₀ refl))))
+  release-none g = by_finish (λ w. (w ≡ 3 → ⊥) → of_finish s' 8 g ≡ 0) g
+      (λ q _. rw q (omega (arith, alone, D.falls s k full.range 8 (λ m. eqb m.finish f₀) (λ m. 1) (omega arith), tally_is 8 (s.slot k) (eqb f₀ f₀) 1 full.tag, on_true (eqb f₀ f₀) 1 (eq-eqb f₀ f₀ refl))))
       (λ _ n. omega (arith, inv.release-none g n, releases g))
 
   -- a main task that ended stays ended
   ended_same : (g i j : ℕ) → ended s' g i j ≡ ended s g i j
   ended_same g i j =
       let b = is₂ (s.finishes.home g) (s.finishes.home g) i j in
-      by-finish (λ w. weigh b 3 5 w ≡ weigh b 3 5 (s.finishes.status g)) g
+      by_finish (λ w. weigh b 3 5 w ≡ weigh b 3 5 (s.finishes.status g)) g
       (λ q. weigh_in b 3 5 4 (omega arith) (omega arith) ∙ sym (weigh_in b 3 5 (s.finishes.status g) (omega (arith, ap s.finishes.status q)) (omega (arith, ap s.finishes.status q))))
       (λ _. refl)
 
@@ -101,8 +101,8 @@ module _ (s : State) (k : ℕ) (inv : Inv s) (full : Full s k 8) (waits : s.fini
   counted-denied = W.counted-denied s₁ k none full.range (other_tag 7 (omega arith) (λ q. omega arith)) (other_tag 11 (omega arith) (λ q. omega arith))
       (λ g i j p a d. omega (arith, inv.counted-denied g i j p a d, ended_same g i j))
 
-  pub delivers-release-keeps : Inv (deliver_release s k)
-  delivers-release-keeps = let r = turned in search (
+  pub delivers_release_keeps : Inv (deliver_release s k)
+  delivers_release_keeps = let r = turned in search (
     publish_some,
     named_publish,
     named_transit,
@@ -113,5 +113,5 @@ module _ (s : State) (k : ℕ) (inv : Inv s) (full : Full s k 8) (waits : s.fini
     D.lasts s₁ k full.range (search r),
     W.ghosts s k none full.range (other_tag 9 (omega arith) (λ q. omega arith)) inv.ghosts,
     W.marked s k none full.range (other_tag 10 (omega arith) (λ q. omega arith)) inv.marked,
-    W.sent-from s k none full.range (other_tag 4 (omega arith) (λ q. omega arith)) (other_tag 6 (omega arith) (λ q. omega arith)) inv.sent-from,
+    W.sent_from s k none full.range (other_tag 4 (omega arith) (λ q. omega arith)) (other_tag 6 (omega arith) (λ q. omega arith)) inv.sent_from,
   )

@@ -1,9 +1,9 @@
 -- Deliver of a report (7): the column lowered keeps the invariant but for the closing test, and with it the whole.
 use Rattle.std.specs.Prelude.{◌≡◌, ℕ, ◌+◌, ◌≤◌, ◌<◌}
 use Rattle.std.proofs.Common.{sym, ap, ◌∙◌, inl, inr, arith}
-use Rattle.model.specs.Base.{on-le, is₂, is₂-cases, is₂-false}
+use Rattle.model.specs.Base.{on-le, is₂, is₂-cases, is₂_false}
 use Rattle.model.specs.State.{State, with_live}
-use Rattle.model.specs.Messages.{none, tally, tally_is, tally_else, tally_away, tallied-moves, reports}
+use Rattle.model.specs.Messages.{none, tally, tally_is, tally_else, tally_away, tallied_moves, reports}
 use Rattle.model.specs.Guards.{Full, Repaired}
 use Rattle.model.specs.Effects.Closing.{Closing, Counts}
 use Rattle.model.specs.Effects.Deliver.{deliver_report}
@@ -13,7 +13,7 @@ use Rattle.model.specs.Inv.Books as B
 use Rattle.model.specs.Inv.Cells as C
 use Rattle.model.specs.Steps.Written as W
 use Rattle.model.specs.Steps.Emptied as D
-use Rattle.model.specs.Steps.Closing.{closing-keeps}
+use Rattle.model.specs.Steps.Closing.{closing_keeps}
 
 module _ (s : State) (k : ℕ) (inv : Inv s) (full : Full s k 7) (repaired : Repaired s (s.slot k).finish)
     (fits : (i : ℕ) → (s.slot k).counts i ≤ s.books.live (s.slot k).finish i (s.slot k).from) where
@@ -34,34 +34,34 @@ module _ (s : State) (k : ℕ) (inv : Inv s) (full : Full s k 7) (repaired : Rep
   other_tag : (t : ℕ) → 0 < t → (t ≡ 7 → ⊥) → W.Elsewhere s₁ k none full.range t
   other_tag t z n = ((λ q. n (sym q ∙ full.tag)), (λ q. omega arith))
 
-  live-other : (f i j : ℕ) → (f ≡ f₀ → ⊥) → s'.books.live f i j ≡ s.books.live f i j
-  live-other f i j n = omega (arith, tally_away 7 (s.slot k) (is₂ f₀ (s.slot k).from f j) ((s.slot k).counts i) (is₂-false f₀ (s.slot k).from f j (λ p _. n (sym p))))
+  live_other : (f i j : ℕ) → (f ≡ f₀ → ⊥) → s'.books.live f i j ≡ s.books.live f i j
+  live_other f i j n = omega (arith, tally_away 7 (s.slot k) (is₂ f₀ (s.slot k).from f j) ((s.slot k).counts i) (is₂_false f₀ (s.slot k).from f j (λ p _. n (sym p))))
 
-  reports-fall : (f i j : ℕ) → reports s' f i j + taken f i j ≡ reports s f i j
-  reports-fall f i j = omega (
+  reports_fall : (f i j : ℕ) → reports s' f i j + taken f i j ≡ reports s f i j
+  reports_fall f i j = omega (
     arith,
-    tallied-moves s k none full.range 7 (λ m. is₂ m.finish m.from f j) (λ m. m.counts i),
+    tallied_moves s k none full.range 7 (λ m. is₂ m.finish m.from f j) (λ m. m.counts i),
     tally_else 7 none (is₂ 0 0 f j) 0 (λ q. omega arith),
   )
 
   cell-places : C.CellPlaces s'
   cell-places f i j h = inv.cell-places f i j (omega arith)
 
-  fresh-book : M.FreshBook s'
-  fresh-book f i j e p = let r = inv.fresh-book f i j e p in (r.0, omega (arith, r.1), r.2)
+  fresh_book : M.FreshBook s'
+  fresh_book f i j e p = let r = inv.fresh_book f i j e p in (r.0, omega (arith, r.1), r.2)
 
-  book-counts : B.BookCountsBut f₀ s'
-  book-counts f n p = go (inv.book-counts f (λ z. omega (arith, inv.book-made f p)) p)
+  book_counts : B.BookCountsBut f₀ s'
+  book_counts f n p = go (inv.book_counts f (λ z. omega (arith, inv.book_made f p)) p)
     where
       go : Counts s f → Counts s' f
-      go (inl c) = inl (c.0, c.1, omega (arith, c.2, live-other f c.0 c.1 n))
+      go (inl c) = inl (c.0, c.1, omega (arith, c.2, live_other f c.0 c.1 n))
       go (inr c) = inr c
 
-  due-column : B.DueColumn s'
-  due-column f p e =
-      let r = inv.due-column f p e in
+  due_column : B.DueColumn s'
+  due_column f p e =
+      let r = inv.due_column f p e in
       let n : f ≡ f₀ → ⊥ = λ q. omega (arith, repaired.due, ap s.books.due q) in
-      (r.0, r.1, r.2, omega (arith, r.3, live-other f r.1 r.0 n))
+      (r.0, r.1, r.2, omega (arith, r.3, live_other f r.1 r.0 n))
 
   -- the column and the reports in flight fall together
   enough : (f i j : ℕ) → taken f i j ≤ s.books.live f i j
@@ -73,16 +73,16 @@ module _ (s : State) (k : ℕ) (inv : Inv s) (full : Full s k 7) (repaired : Rep
       tally-le = omega (arith, tally_is 7 (s.slot k) (is₂ f₀ (s.slot k).from f₀ (s.slot k).from) ((s.slot k).counts i) full.tag, on-le (is₂ f₀ (s.slot k).from f₀ (s.slot k).from) ((s.slot k).counts i))
 
   counted : C.Counted s'
-  counted f i j p a d = omega (arith, inv.counted f i j p a d, reports-fall f i j, enough f i j)
+  counted f i j p a d = omega (arith, inv.counted f i j p a d, reports_fall f i j, enough f i j)
 
   counted-denied : C.CountedDenied s'
-  counted-denied f i j p a d = omega (arith, inv.counted-denied f i j p a d, reports-fall f i j, enough f i j, W.answered-same s₁ k none full.range f i j (other_tag 11 (omega arith) (λ q. omega arith)))
+  counted-denied f i j p a d = omega (arith, inv.counted-denied f i j p a d, reports_fall f i j, enough f i j, W.answered_same s₁ k none full.range f i j (other_tag 11 (omega arith) (λ q. omega arith)))
 
   pub lowered : InvBut f₀ (deliver_report s k)
   lowered = search (
-    fresh-book,
-    book-counts,
-    due-column,
+    fresh_book,
+    book_counts,
+    due_column,
     cell-places,
     counted,
     counted-denied,
@@ -92,5 +92,5 @@ module _ (s : State) (k : ℕ) (inv : Inv s) (full : Full s k 7) (repaired : Rep
     W.ghosts s₁ k none full.range (other_tag 9 (omega arith) (λ q. omega arith)) inv.ghosts,
   )
 
-  pub delivers-report-keeps : {t : State} → s.books.present f₀ ≡ 1 → Closing (deliver_report s k) f₀ k t → Inv t
-  delivers-report-keeps p c = closing-keeps lowered p c
+  pub delivers_report_keeps : {t : State} → s.books.present f₀ ≡ 1 → Closing (deliver_report s k) f₀ k t → Inv t
+  delivers_report_keeps p c = closing_keeps lowered p c

@@ -11,7 +11,7 @@ use Rattle.model.specs.Inv.Messages as M
 pub record TaskMoved (s : State) : Type 0 where
   pub task_statuses : R.TaskStatuses s
   pub main_statuses : R.MainStatuses s
-  pub status-made : R.StatusMade s
+  pub status_made : R.StatusMade s
   pub active : T.Active s
   pub publishing : T.Publishing s
   pub waiting : T.Waiting s
@@ -19,12 +19,12 @@ pub record TaskMoved (s : State) : Type 0 where
   pub lost : T.Lost s
   pub busy : T.Busy s
   pub waiters : T.Waiters s
-  pub lost-tasks : T.LostTasks s
+  pub lost_tasks : T.LostTasks s
   pub first-task : T.FirstTask s
   pub first-lost : T.FirstLost s
   pub publishes : M.Publishes s
   pub published : M.Published s
-  pub lost-transits : M.LostTransits s
+  pub lost_transits : M.LostTransits s
   pub named_publish : M.NamedPublish s
   pub named_transit : M.NamedTransit s
 
@@ -47,8 +47,8 @@ module _ (s : State) (t u v : ℕ) (status : ℕ → ℕ) (inv : Inv s) (is_sent
   was x w e n₅ n = by_Row (λ y. y ≡ w → (s.tasks.status x ≡ w) × (x ≡ t → ⊥)) x (λ _ q. absurd (n (sym q))) (λ _ _ q. absurd (n₅ (sym q))) (λ ne q. (q, ne)) e
 
   -- a main task is another
-  main-other : (f : ℕ) → 0 < s.finishes.status f → s.finishes.main f ≡ t → ⊥
-  main-other f h q = let b = inv.finish-made f h in omega (arith, (inv.mains f b.0 b.1).1, ap s.tasks.sent q)
+  main_other : (f : ℕ) → 0 < s.finishes.status f → s.finishes.main f ≡ t → ⊥
+  main_other f h q = let b = inv.finish_made_lem f h in omega (arith, (inv.mains f b.0 b.1).1, ap s.tasks.sent q)
 
   task_statuses : R.TaskStatuses s'
   task_statuses x z l = by_Row (λ w. (0 < w) × (w ≤ 8)) x (λ _. omega arith) (λ _ _. omega arith) (λ _. inv.task_statuses x z l)
@@ -56,17 +56,17 @@ module _ (s : State) (t u v : ℕ) (status : ℕ → ℕ) (inv : Inv s) (is_sent
   main_statuses : R.MainStatuses s'
   main_statuses x z l e = by_Row (λ w. 5 ≤ w) x (λ q. absurd (omega (arith, ap s.tasks.sent q))) (λ _ _. omega arith) (λ _. inv.main_statuses x z l e)
 
-  status-made : R.StatusMade s'
-  status-made x = by_Row (λ w. 0 < w → (0 < x) × (x ≤ s.tasks.made)) x
-      (λ q _. inv.status-made x (omega (arith, ap s.tasks.status q)))
-      (λ _ q _. inv.status-made x (omega arith))
-      (λ _. inv.status-made x)
+  status_made : R.StatusMade s'
+  status_made x = by_Row (λ w. 0 < w → (0 < x) × (x ≤ s.tasks.made)) x
+      (λ q _. inv.status_made x (omega (arith, ap s.tasks.status q)))
+      (λ _ q _. inv.status_made x (omega arith))
+      (λ _. inv.status_made x)
 
   active : T.Active s'
   active f e =
       let k = inv.active f e in
       let r : (5 ≤ status (s.finishes.main f)) × (status (s.finishes.main f) ≤ 6) = by_Row (λ w. (5 ≤ w) × (w ≤ 6)) (s.finishes.main f)
-      (λ q. absurd (main-other f (omega arith) q))
+      (λ q. absurd (main_other f (omega arith) q))
       (λ _ _. omega arith)
       (λ _. (k.1, k.2)) in
       (k.0, r.0, r.1)
@@ -75,28 +75,28 @@ module _ (s : State) (t u v : ℕ) (status : ℕ → ℕ) (inv : Inv s) (is_sent
   publishing : T.Publishing s'
   publishing f e =
       let k = inv.publishing f e in
-      let b = inv.finish-made f (omega arith) in (
+      let b = inv.finish_made_lem f (omega arith) in (
         k.0,
         k.1,
         by_Row (λ w. w ≡ 6) (s.finishes.main f)
-            (λ q. absurd (main-other f (omega arith) q))
+            (λ q. absurd (main_other f (omega arith) q))
             (λ q _.
-            let of : s.tasks.finish t ≡ f = (inv.sent-tasks t is_sent).2 ∙ ap s.tasks.finish (sym q) ∙ (inv.mains f b.0 b.1).0 in
+            let of : s.tasks.finish t ≡ f = (inv.sent_tasks t is_sent).2 ∙ ap s.tasks.finish (sym q) ∙ (inv.mains f b.0 b.1).0 in
             absurd (omega (arith, (inv.first-task t is_sent (ap s.finishes.published of ∙ k.1) (λ p. omega (arith, ap s.finishes.status of))).1)))
             (λ _. k.2),
       )
 
-  main-ended : (f : ℕ) → 7 ≤ s.tasks.status (s.finishes.main f) → status (s.finishes.main f) ≡ s.tasks.status (s.finishes.main f)
-  main-ended f l = stays (s.finishes.main f) (s.tasks.status (s.finishes.main f)) refl (λ q. omega arith) (λ q. omega arith)
+  main_ended : (f : ℕ) → 7 ≤ s.tasks.status (s.finishes.main f) → status (s.finishes.main f) ≡ s.tasks.status (s.finishes.main f)
+  main_ended f l = stays (s.finishes.main f) (s.tasks.status (s.finishes.main f)) refl (λ q. omega arith) (λ q. omega arith)
 
   waiting : T.Waiting s'
-  waiting f e = let k = inv.waiting f e in rw (main-ended f (omega (arith, k.2))) k
+  waiting f e = let k = inv.waiting f e in rw (main_ended f (omega (arith, k.2))) k
 
   released : T.Released s'
-  released f e = let k = inv.released f e in rw (main-ended f (omega arith)) k
+  released f e = let k = inv.released f e in rw (main_ended f (omega arith)) k
 
   lost : T.Lost s'
-  lost f e = let k = inv.lost f e in rw (main-ended f k.1) k
+  lost f e = let k = inv.lost f e in rw (main_ended f k.1) k
 
   busy : T.Busy s'
   busy x = by_Row (λ w. 5 ≤ w → w ≤ 6 → s.dead (s.tasks.at x) ≡ false) x
@@ -107,8 +107,8 @@ module _ (s : State) (t u v : ℕ) (status : ℕ → ℕ) (inv : Inv s) (is_sent
   waiters : T.Waiters s'
   waiters x = by_Row (λ w. 1 ≤ w → w ≤ 2 → s.dead (s.tasks.from x) ≡ false) x (λ _ _ h. absurd (omega arith)) (λ _ _ _ h. absurd (omega arith)) (λ _. inv.waiters x)
 
-  lost-tasks : T.LostTasks s'
-  lost-tasks x e = inv.lost-tasks x (was x 8 e (λ q. omega arith) (λ q. omega arith)).0
+  lost_tasks : T.LostTasks s'
+  lost_tasks x e = inv.lost_tasks x (was x 8 e (λ q. omega arith) (λ q. omega arith)).0
 
   first-task : T.FirstTask s'
   first-task x e p n₅ = let k = inv.first-task x e p n₅ in (k.0, stays x 1 k.1 (λ q. omega arith) (λ q. omega arith), k.2)
@@ -122,8 +122,8 @@ module _ (s : State) (t u v : ℕ) (status : ℕ → ℕ) (inv : Inv s) (is_sent
   published : M.Published s'
   published k h e = let r = inv.published k h e in (r.0, r.1, r.2, stays (s.slot k).task 1 r.3 (λ q. omega arith) (λ q. omega arith))
 
-  lost-transits : M.LostTransits s'
-  lost-transits k h l m a = let r = inv.lost-transits k h l m a in (r.0, stays (s.slot k).task 8 r.1 (λ q. omega arith) (λ q. omega arith))
+  lost_transits : M.LostTransits s'
+  lost_transits k h l m a = let r = inv.lost_transits k h l m a in (r.0, stays (s.slot k).task 8 r.1 (λ q. omega arith) (λ q. omega arith))
 
   named_publish : M.NamedPublish s'
   named_publish x e = inv.named_publish x (was x 1 e (λ q. omega arith) (λ q. omega arith)).0
@@ -135,7 +135,7 @@ module _ (s : State) (t u v : ℕ) (status : ℕ → ℕ) (inv : Inv s) (is_sent
   moves = search (
     task_statuses,
     main_statuses,
-    status-made,
+    status_made,
     active,
     publishing,
     waiting,
@@ -143,12 +143,12 @@ module _ (s : State) (t u v : ℕ) (status : ℕ → ℕ) (inv : Inv s) (is_sent
     lost,
     busy,
     waiters,
-    lost-tasks,
+    lost_tasks,
     first-task,
     first-lost,
     publishes,
     published,
-    lost-transits,
+    lost_transits,
     named_publish,
     named_transit,
   )

@@ -3,43 +3,43 @@ use Rattle.std.specs.Prelude.{◌≡◌, true, false, ℕ, ◌+◌, ◌<◌}
 use Rattle.std.proofs.Math.Path.{refl}
 use Rattle.std.proofs.Common.{sym, ap, inl, inr}
 use native.Mathlib.Omega.{arith}
-use Rattle.model.specs.Base.{upd-cases, on, on-cases, on-false, is₃, is₃-false, is₃-true, eq-cases, both}
+use Rattle.model.specs.Base.{upd-cases, on, on-cases, on_false, is₃, is₃_false, is₃_true, eq_cases, both}
 use Rattle.model.specs.State.{State, Message}
-use Rattle.model.specs.Messages.{denied, granted, between, tally_is, tally_else, tallied-moves}
+use Rattle.model.specs.Messages.{denied, granted, between, tally_is, tally_else, tallied_moves}
 use Rattle.model.specs.Guards.{Full, Repaired}
 use Rattle.model.specs.Effects.Closing.{Counts}
-use Rattle.model.specs.Effects.Deliver.{deliver_transit, refuseTransit}
+use Rattle.model.specs.Effects.Deliver.{deliver_transit, refuse_transit}
 use Rattle.model.specs.Inv.{Inv}
 use Rattle.model.specs.Inv.Messages as M
 use Rattle.model.specs.Inv.Books as B
 use Rattle.model.specs.Inv.Cells as C
 use Rattle.model.specs.Steps.Written as W
-use Rattle.model.specs.Steps.Answer.{transits-fall, answered-keeps}
+use Rattle.model.specs.Steps.Answer.{transits_fall, answered_keeps}
 
-module _ (s : State) (k : ℕ) (inv : Inv s) (full : Full s k 3) (from-lives : s.dead (s.slot k).from ≡ false)
+module _ (s : State) (k : ℕ) (inv : Inv s) (full : Full s k 3) (from_lives : s.dead (s.slot k).from ≡ false)
     (booked : s.books.present (s.slot k).finish ≡ 1) (repaired : Repaired s (s.slot k).finish) where
   abbrev m₀ : Message
   m₀ = s.slot k
 
-  module _ (to-dead : s.dead (s.slot k).to ≡ true) where
+  module _ (to_dead : s.dead (s.slot k).to ≡ true) where
     abbrev refused : Message
     refused = denied m₀.finish m₀.task m₀.from m₀.to
 
     other_tag : (x : ℕ) → (x ≡ 3 → ⊥) → (x ≡ 5 → ⊥) → W.Elsewhere s k refused full.range x
     other_tag x n₃ n = ((λ q. n₃ (omega (arith, full.tag))), (λ q. n (sym q)))
 
-    sent-tasks-fewer : C.SentTasksMost (refuseTransit s k)
-    sent-tasks-fewer f i j ne = omega (arith, inv.sent-tasks-most f i j ne, transits-fall s k 5 inv full from-lives (omega arith) (omega arith) f i j)
+    sent_tasks_fewer : C.SentTasksMost (refuse_transit s k)
+    sent_tasks_fewer f i j ne = omega (arith, inv.sent_tasks_most f i j ne, transits_fall s k 5 inv full from_lives (omega arith) (omega arith) f i j)
 
-    pub refuses-transit-keeps : Inv (refuseTransit s k)
-    refuses-transit-keeps = answered-keeps s k 5 inv full from-lives (omega arith) (omega arith) s.books.live s.books.sent inv.fresh-book
+    pub refuses_transit_keeps : Inv (refuse_transit s k)
+    refuses_transit_keeps = answered_keeps s k 5 inv full from_lives (omega arith) (omega arith) s.books.live s.books.sent inv.fresh_book
         (W.questions s k refused full.range (other_tag 6 (λ q. omega arith) (λ q. omega arith)) (other_tag 10 (λ q. omega arith) (λ q. omega arith)) inv.questions)
-        inv.book-counts inv.due-column inv.cell-places
+        inv.book_counts inv.due_column inv.cell-places
         (W.counted s k refused full.range (other_tag 7 (λ q. omega arith) (λ q. omega arith)) inv.counted)
         (W.counted-denied s k refused full.range (other_tag 7 (λ q. omega arith) (λ q. omega arith)) (other_tag 11 (λ q. omega arith) (λ q. omega arith)) inv.counted-denied)
-        (W.sent-from s k refused full.range (other_tag 4 (λ q. omega arith) (λ q. omega arith)) (other_tag 6 (λ q. omega arith) (λ q. omega arith)) inv.sent-from)
-        (W.sent-most s k refused full.range (other_tag 6 (λ q. omega arith) (λ q. omega arith)) inv.sent-most)
-        inv.sent-book sent-tasks-fewer
+        (W.sent_from s k refused full.range (other_tag 4 (λ q. omega arith) (λ q. omega arith)) (other_tag 6 (λ q. omega arith) (λ q. omega arith)) inv.sent_from)
+        (W.sent_most s k refused full.range (other_tag 6 (λ q. omega arith) (λ q. omega arith)) inv.sent_most)
+        inv.sent_book sent_tasks_fewer
 
   module _ (to-lives : s.dead (s.slot k).to ≡ false) where
     abbrev s' : State
@@ -55,44 +55,44 @@ module _ (s : State) (k : ℕ) (inv : Inv s) (full : Full s k 3) (from-lives : s
     here : ℕ → ℕ → ℕ → ℕ
     here f i j = on (is₃ m₀.finish m₀.from m₀.to f i j) 1
 
-    live-rises : (f i j : ℕ) → s'.books.live f i j ≡ s.books.live f i j + here f i j
+    live_rises : (f i j : ℕ) → s'.books.live f i j ≡ s.books.live f i j + here f i j
     unfolding here
-    live-rises f i j = refl
+    live_rises f i j = refl
 
-    sent-rises : (f i j : ℕ) → s'.books.sent f i j ≡ s.books.sent f i j + here f i j
+    sent_rises : (f i j : ℕ) → s'.books.sent f i j ≡ s.books.sent f i j + here f i j
     unfolding here
-    sent-rises f i j = refl
+    sent_rises f i j = refl
 
-    grants-rise : (f i j : ℕ) → between s' 4 f i j ≡ between s 4 f i j + here f i j
+    grants_rise : (f i j : ℕ) → between s' 4 f i j ≡ between s 4 f i j + here f i j
     unfolding here
-    grants-rise f i j = omega (
+    grants_rise f i j = omega (
       arith,
-      tallied-moves s k grant full.range 4 (λ m. is₃ m.finish m.from m.to f i j) (λ m. 1),
+      tallied_moves s k grant full.range 4 (λ m. is₃ m.finish m.from m.to f i j) (λ m. 1),
       tally_else 4 m₀ (is₃ m₀.finish m₀.from m₀.to f i j) 1 (λ q. omega (arith, full.tag)),
       tally_is 4 grant (is₃ m₀.finish m₀.from m₀.to f i j) 1 refl,
     )
 
-    asks-fall : (f i j : ℕ) → between s' 3 f i j + here f i j ≡ between s 3 f i j
+    asks_fall : (f i j : ℕ) → between s' 3 f i j + here f i j ≡ between s 3 f i j
     unfolding here
-    asks-fall f i j = transits-fall s k 4 inv full from-lives (omega arith) (omega arith) f i j
+    asks_fall f i j = transits_fall s k 4 inv full from_lives (omega arith) (omega arith) f i j
 
     away : (f i j : ℕ) → (m₀.finish ≡ f → m₀.from ≡ i → m₀.to ≡ j → ⊥) → here f i j ≡ 0
     unfolding here
-    away f i j n = on-false (is₃ m₀.finish m₀.from m₀.to f i j) 1 (is₃-false m₀.finish m₀.from m₀.to f i j n)
+    away f i j n = on_false (is₃ m₀.finish m₀.from m₀.to f i j) 1 (is₃_false m₀.finish m₀.from m₀.to f i j n)
 
     at-grant : (f i j : ℕ) → 0 < here f i j → (m₀.finish ≡ f) × (m₀.from ≡ i) × (m₀.to ≡ j)
     unfolding here
-    at-grant f i j h = on-cases (is₃ m₀.finish m₀.from m₀.to f i j) 1 h (λ e _. is₃-true m₀.finish m₀.from m₀.to f i j e)
+    at-grant f i j h = on-cases (is₃ m₀.finish m₀.from m₀.to f i j) 1 h (λ e _. is₃_true m₀.finish m₀.from m₀.to f i j e)
 
     -- a dead sender is another
     not_dead : (f i j : ℕ) → s.dead i ≡ true → here f i j ≡ 0
-    not_dead f i j d = away f i j (λ _ q _. both d (rw q at from-lives))
+    not_dead f i j d = away f i j (λ _ q _. both d (rw q at from_lives))
 
-    fresh-book : M.FreshBook s'
-    fresh-book f i j e p =
-        let r = inv.fresh-book f i j e p in
+    fresh_book : M.FreshBook s'
+    fresh_book f i j e p =
+        let r = inv.fresh_book f i j e p in
         let z = away f i j (λ q _ _. omega (arith, inv.fresh_messages k full.range (omega (arith, full.tag)) (λ e. omega (arith, full.tag)), ap s.finishes.published q)) in
-        (omega (arith, r.0, z, sent-rises f i j), omega (arith, r.1, z, live-rises f i j), r.2)
+        (omega (arith, r.0, z, sent_rises f i j), omega (arith, r.1, z, live_rises f i j), r.2)
 
     questions : M.Questions s'
     questions l h = upd-cases s.slot (M.QuestionsOf s') k grant l
@@ -102,26 +102,26 @@ module _ (s : State) (k : ℕ) (inv : Inv s) (full : Full s k 3) (from-lives : s
         let m = s.slot l in
         let z = not_dead m.finish m.from m.to (inv.asks l h (omega arith)).0 in (
           r.0,
-          omega (arith, r.1, W.between-same s k grant full.range 6 m.finish m.from m.to (elsewhere 6 (λ q. omega arith) (λ q. omega arith))),
-          λ p. omega (arith, r.2 p, z, sent-rises m.finish m.from m.to),
+          omega (arith, r.1, W.between_same s k grant full.range 6 m.finish m.from m.to (elsewhere 6 (λ q. omega arith) (λ q. omega arith))),
+          λ p. omega (arith, r.2 p, z, sent_rises m.finish m.from m.to),
         ))
 
-    book-counts : B.BookCountsBut 0 s'
-    book-counts f n p = more (inv.book-counts f n p)
+    book_counts : B.BookCountsBut 0 s'
+    book_counts f n p = more (inv.book_counts f n p)
       where
         more : Counts s f → Counts s' f
-        more (inl (i, j, h)) = inl (i, j, omega (arith, live-rises f i j))
+        more (inl (i, j, h)) = inl (i, j, omega (arith, live_rises f i j))
         more (inr g) = inr g
 
-    due-column : B.DueColumn s'
-    due-column f p d = let r = inv.due-column f p d in (r.0, r.1, r.2, omega (arith, r.3, live-rises f r.1 r.0))
+    due_column : B.DueColumn s'
+    due_column f p d = let r = inv.due_column f p d in (r.0, r.1, r.2, omega (arith, r.3, live_rises f r.1 r.0))
 
     cell-places : C.CellPlaces s'
-    cell-places f i j h = eq-cases (s.books.live f i j) 0
+    cell-places f i j h = eq_cases (s.books.live f i j) 0
         (λ z.
-        let g = at-grant f i j (omega (arith, live-rises f i j)) in
-        let p = inv.names_pair k full.range (omega (arith, full.tag)) (omega (arith, full.tag)) in
-        let n = inv.names_task k full.range (omega (arith, full.tag)) (omega (arith, full.tag)) in
+        let g = at-grant f i j (omega (arith, live_rises f i j)) in
+        let p = inv.names-pair k full.range (omega (arith, full.tag)) (omega (arith, full.tag)) in
+        let n = inv.names-task k full.range (omega (arith, full.tag)) (omega (arith, full.tag)) in
         omega (arith, g.1, g.2, p, inv.task_ranges m₀.task n.0 n.1))
         (λ n. inv.cell-places f i j (omega arith))
 
@@ -129,46 +129,46 @@ module _ (s : State) (k : ℕ) (inv : Inv s) (full : Full s k 3) (from-lives : s
     counted f i j p l d = omega (
       arith,
       inv.counted f i j p l d,
-      live-rises f i j,
-      sent-rises f i j,
-      W.reports-same s k grant full.range f i j (elsewhere 7 (λ q. omega arith) (λ q. omega arith)),
+      live_rises f i j,
+      sent_rises f i j,
+      W.reports_same s k grant full.range f i j (elsewhere 7 (λ q. omega arith) (λ q. omega arith)),
     )
 
     counted-denied : C.CountedDenied s'
     counted-denied f i j p l d = omega (
       arith,
       inv.counted-denied f i j p l d,
-      live-rises f i j,
+      live_rises f i j,
       not_dead f i j (inv.denied-dead f j i d),
-      W.reports-same s k grant full.range f i j (elsewhere 7 (λ q. omega arith) (λ q. omega arith)),
-      W.answered-same s k grant full.range f i j (elsewhere 11 (λ q. omega arith) (λ q. omega arith)),
+      W.reports_same s k grant full.range f i j (elsewhere 7 (λ q. omega arith) (λ q. omega arith)),
+      W.answered_same s k grant full.range f i j (elsewhere 11 (λ q. omega arith) (λ q. omega arith)),
     )
 
-    sent-from : C.SentFrom s'
-    sent-from f i j p a b = omega (
+    sent_from : C.SentFrom s'
+    sent_from f i j p a b = omega (
       arith,
-      inv.sent-from f i j p a b,
-      sent-rises f i j,
-      grants-rise f i j,
-      W.between-same s k grant full.range 6 f i j (elsewhere 6 (λ q. omega arith) (λ q. omega arith)),
+      inv.sent_from f i j p a b,
+      sent_rises f i j,
+      grants_rise f i j,
+      W.between_same s k grant full.range 6 f i j (elsewhere 6 (λ q. omega arith) (λ q. omega arith)),
     )
 
-    sent-most : C.SentMost s'
-    sent-most f i j p a = omega (
+    sent_most : C.SentMost s'
+    sent_most f i j p a = omega (
       arith,
-      inv.sent-most f i j p a,
-      sent-rises f i j,
-      W.between-same s k grant full.range 6 f i j (elsewhere 6 (λ q. omega arith) (λ q. omega arith)),
+      inv.sent_most f i j p a,
+      sent_rises f i j,
+      W.between_same s k grant full.range 6 f i j (elsewhere 6 (λ q. omega arith) (λ q. omega arith)),
     )
 
-    sent-book : C.SentBook s'
-    sent-book f i j h = eq-cases (s.books.sent f i j) 0
-        (λ z. let g = at-grant f i j (omega (arith, sent-rises f i j)) in rw g.0 at booked)
-        (λ n. inv.sent-book f i j (omega arith))
+    sent_book : C.SentBook s'
+    sent_book f i j h = eq_cases (s.books.sent f i j) 0
+        (λ z. let g = at-grant f i j (omega (arith, sent_rises f i j)) in rw g.0 at booked)
+        (λ n. inv.sent_book f i j (omega arith))
 
-    sent-tasks-most : C.SentTasksMost s'
-    sent-tasks-most f i j ne = omega (arith, inv.sent-tasks-most f i j ne, sent-rises f i j, asks-fall f i j)
+    sent_tasks_most : C.SentTasksMost s'
+    sent_tasks_most f i j ne = omega (arith, inv.sent_tasks_most f i j ne, sent_rises f i j, asks_fall f i j)
 
-    pub delivers-transit-keeps : Inv (deliver_transit s k)
-    delivers-transit-keeps = answered-keeps s k 4 inv full from-lives (omega arith) (omega arith) s'.books.live s'.books.sent
-        fresh-book questions book-counts due-column cell-places counted counted-denied sent-from sent-most sent-book sent-tasks-most
+    pub delivers_transit_keeps : Inv (deliver_transit s k)
+    delivers_transit_keeps = answered_keeps s k 4 inv full from_lives (omega arith) (omega arith) s'.books.live s'.books.sent
+        fresh_book questions book_counts due_column cell-places counted counted-denied sent_from sent_most sent_book sent_tasks_most

@@ -1,7 +1,7 @@
 -- A book that passes the closing test is cleared: the conjuncts that read store books, but for what the closing then sends.
 use Rattle.std.specs.Prelude.{◌≡◌, refl, Bool, true, false, ℕ, ◌+◌, ◌≤◌, ◌<◌}
 use Rattle.std.proofs.Common.{ap, ◌∙◌, arith}
-use Rattle.model.specs.Base.{upd_same, upd_other, upd-cases, is₃, eq-cases, both}
+use Rattle.model.specs.Base.{upd_same, upd_other, upd-cases, is₃, eq_cases, both}
 use Rattle.model.specs.State.{State}
 use Rattle.model.specs.Messages.{between}
 use Rattle.model.specs.Weights.{tasks_with}
@@ -11,7 +11,7 @@ use Rattle.model.specs.Inv.Messages as M
 use Rattle.model.specs.Inv.Books as B
 use Rattle.model.specs.Inv.Cells as C
 use Rattle.model.specs.Inv.Locals as L
-use Rattle.model.specs.Facts.Closed.{over, no-live, no-child, no-transit, no-published, no-report, late-denied}
+use Rattle.model.specs.Facts.Closed.{over, no_live, no_child, no_transit, no_published, no_report, late_denied}
 
 -- what is shown
 pub record Cleared (s : State) : Type 0 where
@@ -19,22 +19,22 @@ pub record Cleared (s : State) : Type 0 where
   pub published : M.Published s
   pub transits : M.Transits s
   pub late : M.Late s
-  pub report-book : M.ReportBook s
+  pub report_book : M.ReportBook s
   pub ghost_made : M.GhostMade s
   pub ghost_ends : M.GhostEnds s
   pub asks : M.Asks s
   pub questions : M.Questions s
-  pub fresh-book : M.FreshBook s
+  pub fresh_book : M.FreshBook s
   pub present_mark : B.PresentMark s
   pub due_mark : B.DueMark s
   pub adopted_mark : B.AdoptedMark s
-  pub book-made : B.BookMade s
-  pub book-unreleased : B.BookUnreleased s
-  pub active-book : B.ActiveBook s
-  pub book-counts : B.BookCountsBut 0 s
-  pub due-column : B.DueColumn s
-  pub book-parent : B.BookParent s
-  pub adopted-dead : B.AdoptedDead s
+  pub book_made : B.BookMade s
+  pub book_unreleased : B.BookUnreleased s
+  pub active_book : B.ActiveBook s
+  pub book_counts : B.BookCountsBut 0 s
+  pub due_column : B.DueColumn s
+  pub book_parent_lem : B.BookParent s
+  pub adopted_dead : B.AdoptedDead s
   pub orphans : B.Orphans s
   pub book_above : B.BookAbove s
   pub skipped : B.Skipped s
@@ -44,10 +44,10 @@ pub record Cleared (s : State) : Type 0 where
   pub no_answer : C.NoAnswer s
   pub marked : C.Marked s
   pub asked-dead : C.AskedDead s
-  pub sent-from : C.SentFrom s
-  pub sent-most : C.SentMost s
-  pub sent-book : C.SentBook s
-  pub sent-tasks-most : C.SentTasksMost s
+  pub sent_from : C.SentFrom s
+  pub sent_most : C.SentMost s
+  pub sent_book : C.SentBook s
+  pub sent_tasks_most : C.SentTasksMost s
   pub local_book : L.LocalBook s
 
 module _ (s : State) (f : ℕ) (inv : InvBut f s) (present : s.books.present f ≡ 1) (closes : Closes s f) where
@@ -56,7 +56,7 @@ module _ (s : State) (f : ℕ) (inv : InvBut f s) (present : s.books.present f �
 
   -- a book that is present is another, and was
   left : (g : ℕ) → s'.books.present g ≡ 1 → (g ≡ f → ⊥) × (s.books.present g ≡ 1)
-  left g p = eq-cases g f
+  left g p = eq_cases g f
       (λ q. absurd (omega (arith, ap s'.books.present q, upd_same s.books.present f 0)))
       (λ ne. (ne, rw (upd_other s.books.present f 0 g ne) at p))
 
@@ -71,34 +71,34 @@ module _ (s : State) (f : ℕ) (inv : InvBut f s) (present : s.books.present f �
   live_same : (g : ℕ) → (g ≡ f → ⊥) → s'.books.live g ≡ s.books.live g
   live_same g ne = upd_other s.books.live f (λ i j. 0) g ne
 
-  sent-same : (g : ℕ) → (g ≡ f → ⊥) → s'.books.sent g ≡ s.books.sent g
-  sent-same g ne = upd_other s.books.sent f (λ i j. 0) g ne
+  sent_same : (g : ℕ) → (g ≡ f → ⊥) → s'.books.sent g ≡ s.books.sent g
+  sent_same g ne = upd_other s.books.sent f (λ i j. 0) g ne
 
-  asked-same : (g : ℕ) → (g ≡ f → ⊥) → s'.books.asked g ≡ s.books.asked g
-  asked-same g ne = upd_other s.books.asked f (λ i j. false) g ne
+  asked_same : (g : ℕ) → (g ≡ f → ⊥) → s'.books.asked g ≡ s.books.asked g
+  asked_same g ne = upd_other s.books.asked f (λ i j. false) g ne
 
-  ghosts-same : (g : ℕ) → (g ≡ f → ⊥) → s'.books.ghosts g ≡ s.books.ghosts g
-  ghosts-same g ne = upd_other s.books.ghosts f (λ g. false) g ne
+  ghosts_same : (g : ℕ) → (g ≡ f → ⊥) → s'.books.ghosts g ≡ s.books.ghosts g
+  ghosts_same g ne = upd_other s.books.ghosts f (λ g. false) g ne
 
   publishes : M.Publishes s'
   publishes k h e = let r = inv.publishes k h e in (absent (s.slot k).finish r.0, r.1, r.2, r.3)
 
   published : M.Published s'
-  published k h e = let r = inv.published k h e in (stays (s.slot k).finish (no-published s inv f present closes k h e) r.0, r.1, r.2, r.3)
+  published k h e = let r = inv.published k h e in (stays (s.slot k).finish (no_published s inv f present closes k h e) r.0, r.1, r.2, r.3)
 
   transits : M.Transits s'
-  transits k h l m a = let r = inv.transits k h l m a in (r.0, stays (s.slot k).finish (λ q. no-transit s inv f present closes k h l m q a) r.1)
+  transits k h l m a = let r = inv.transits k h l m a in (r.0, stays (s.slot k).finish (λ q. no_transit s inv f present closes k h l m q a) r.1)
 
   late : M.Late s'
-  late k h e p = eq-cases (s.slot k).finish f
-      (λ q. rw q (late-denied s inv f present closes k h e q))
+  late k h e p = eq_cases (s.slot k).finish f
+      (λ q. rw q (late_denied s inv f present closes k h e q))
       (λ ne. inv.late k h e (rw (upd_other s.books.present f 0 (s.slot k).finish ne) at p))
 
-  report-book : M.ReportBook s'
-  report-book k h e a = stays (s.slot k).finish (λ q. no-report s inv f present closes k h e q a) (inv.report-book k h e a)
+  report_book : M.ReportBook s'
+  report_book k h e a = stays (s.slot k).finish (λ q. no_report s inv f present closes k h e q a) (inv.report_book k h e a)
 
   ghost_made : M.GhostMade s'
-  ghost_made q g e = eq-cases q f
+  ghost_made q g e = eq_cases q f
       (λ x. both e (ap (λ y. s'.books.ghosts y g) x ∙ ap (λ (h : ℕ → Bool). h g) (upd_same s.books.ghosts f (λ g. false))))
       (λ ne.
       let r = inv.ghost_made q g (rw (upd_other s.books.ghosts f (λ g. false) q ne) at e) in
@@ -110,15 +110,15 @@ module _ (s : State) (f : ℕ) (inv : InvBut f s) (present : s.books.present f �
   asks : M.Asks s'
   asks k h l =
       let r = inv.asks k h l in
-      (r.0, λ p. let o = left (s.slot k).finish p in rw (asked-same (s.slot k).finish o.0) (r.1 o.1))
+      (r.0, λ p. let o = left (s.slot k).finish p in rw (asked_same (s.slot k).finish o.0) (r.1 o.1))
 
   questions : M.Questions s'
   questions k h e =
       let r = inv.questions k h e in
-      (r.0, r.1, λ p. let o = left (s.slot k).finish p in rw (sent-same (s.slot k).finish o.0) (r.2 o.1))
+      (r.0, r.1, λ p. let o = left (s.slot k).finish p in rw (sent_same (s.slot k).finish o.0) (r.2 o.1))
 
-  fresh-book : M.FreshBook s'
-  fresh-book g i j e p = let o = left g p in rw (sent-same g o.0, live_same g o.0, asked-same g o.0) (inv.fresh-book g i j e o.1)
+  fresh_book : M.FreshBook s'
+  fresh_book g i j e p = let o = left g p in rw (sent_same g o.0, live_same g o.0, asked_same g o.0) (inv.fresh_book g i j e o.1)
 
   present_mark : B.PresentMark s'
   present_mark g = upd-cases s.books.present (λ w. w ≤ 1) f 0 g (λ _. omega arith) (λ _. inv.present_mark g)
@@ -129,38 +129,38 @@ module _ (s : State) (f : ℕ) (inv : InvBut f s) (present : s.books.present f �
   adopted_mark : B.AdoptedMark s'
   adopted_mark g = upd-cases s.books.adopted (λ w. w ≤ 1) f 0 g (λ _. omega arith) (λ _. inv.adopted_mark g)
 
-  book-made : B.BookMade s'
-  book-made g p = inv.book-made g (left g p).1
+  book_made : B.BookMade s'
+  book_made g p = inv.book_made g (left g p).1
 
-  book-unreleased : B.BookUnreleased s'
-  book-unreleased g p = inv.book-unreleased g (left g p).1
+  book_unreleased : B.BookUnreleased s'
+  book_unreleased g p = inv.book_unreleased g (left g p).1
 
-  active-book : B.ActiveBook s'
-  active-book g e = upd_other s.books.present f 0 g (λ q. omega (arith, over s inv f present closes, ap s.finishes.status q)) ∙ inv.active-book g e
+  active_book : B.ActiveBook s'
+  active_book g e = upd_other s.books.present f 0 g (λ q. omega (arith, over s inv f present closes, ap s.finishes.status q)) ∙ inv.active_book g e
 
-  book-counts : B.BookCountsBut 0 s'
-  book-counts g _ p = let o = left g p in rw (live_same g o.0, ghosts-same g o.0) (inv.book-counts g o.0 o.1)
+  book_counts : B.BookCountsBut 0 s'
+  book_counts g _ p = let o = left g p in rw (live_same g o.0, ghosts_same g o.0) (inv.book_counts g o.0 o.1)
 
-  due-column : B.DueColumn s'
-  due-column g p e = let o = left g p in rw (live_same g o.0) (inv.due-column g o.1 (rw (upd_other s.books.due f 0 g o.0) at e))
+  due_column : B.DueColumn s'
+  due_column g p e = let o = left g p in rw (live_same g o.0) (inv.due_column g o.1 (rw (upd_other s.books.due f 0 g o.0) at e))
 
-  book-parent : B.BookParent s'
-  book-parent g p =
+  book_parent_lem : B.BookParent s'
+  book_parent_lem g p =
       let o = left g p in
       let ne = o.0 in
-      let r = inv.book-parent g o.1 in
-      let child = no-child s inv f present closes g o.1 in
+      let r = inv.book_parent_lem g o.1 in
+      let child = no_child s inv f present closes g o.1 in
       rw (upd_other s.books.parent f 0 g ne) (r.0, λ z. stays (s.books.parent g) child (r.1 z))
 
-  adopted-dead : B.AdoptedDead s'
-  adopted-dead g = upd-cases s.books.adopted (λ w. w ≡ 1 → s.dead (s.finishes.home g) ≡ true) f 0 g (λ _ e. absurd (omega arith)) (λ _. inv.adopted-dead g)
+  adopted_dead : B.AdoptedDead s'
+  adopted_dead g = upd-cases s.books.adopted (λ w. w ≡ 1 → s.dead (s.finishes.home g) ≡ true) f 0 g (λ _ e. absurd (omega arith)) (λ _. inv.adopted_dead g)
 
   orphans : B.Orphans s'
   orphans g p d =
       let o = left g p in
       let ne = o.0 in
       let r = inv.orphans g o.1 d in
-      let child = no-child s inv f present closes g o.1 in
+      let child = no_child s inv f present closes g o.1 in
       simp upd_other r
 
   book_above : B.BookAbove s'
@@ -177,7 +177,7 @@ module _ (s : State) (f : ℕ) (inv : InvBut f s) (present : s.books.present f �
   cell-places g i j = upd-cases s.books.live (λ l. 0 < l i j → (i < s.places) × (j < s.places)) f (λ i j. 0) g (λ _ h. absurd (omega arith)) (λ _. inv.cell-places g i j)
 
   counted : C.Counted s'
-  counted g i j p a d = let o = left g p in rw (live_same g o.0, sent-same g o.0) (inv.counted g i j o.1 a d)
+  counted g i j p a d = let o = left g p in rw (live_same g o.0, sent_same g o.0) (inv.counted g i j o.1 a d)
 
   counted-denied : C.CountedDenied s'
   counted-denied g i j p a d = let o = left g p in rw (live_same g o.0) (inv.counted-denied g i j o.1 a d)
@@ -186,27 +186,27 @@ module _ (s : State) (f : ℕ) (inv : InvBut f s) (present : s.books.present f �
   no_answer g i j p a d = inv.no_answer g i j (left g p).1 a d
 
   marked : C.Marked s'
-  marked g i j p a = let o = left g p in rw (asked-same g o.0) (inv.marked g i j o.1 a)
+  marked g i j p a = let o = left g p in rw (asked_same g o.0) (inv.marked g i j o.1 a)
 
   asked-dead : C.AskedDead s'
   asked-dead g i j = upd-cases s.books.asked (λ a. a i j ≡ true → s.dead i ≡ true) f (λ i j. false) g (λ _ e. both e refl) (λ _. inv.asked-dead g i j)
 
-  sent-from : C.SentFrom s'
-  sent-from g i j p a b = let o = left g p in rw (sent-same g o.0) (inv.sent-from g i j o.1 a b)
+  sent_from : C.SentFrom s'
+  sent_from g i j p a b = let o = left g p in rw (sent_same g o.0) (inv.sent_from g i j o.1 a b)
 
-  sent-most : C.SentMost s'
-  sent-most g i j p a = let o = left g p in rw (sent-same g o.0) (inv.sent-most g i j o.1 a)
+  sent_most : C.SentMost s'
+  sent_most g i j p a = let o = left g p in rw (sent_same g o.0) (inv.sent_most g i j o.1 a)
 
-  sent-book : C.SentBook s'
-  sent-book g i j h = eq-cases g f
+  sent_book : C.SentBook s'
+  sent_book g i j h = eq_cases g f
       (λ q. absurd (omega (arith, ap (λ x. s'.books.sent x i j) q, ap (λ (h : ℕ → ℕ → ℕ). h i j) (upd_same s.books.sent f (λ i j. 0)))))
-      (λ ne. stays g ne (inv.sent-book g i j (rw (upd_other s.books.sent f (λ i j. 0) g ne) at h)))
+      (λ ne. stays g ne (inv.sent_book g i j (rw (upd_other s.books.sent f (λ i j. 0) g ne) at h)))
 
-  sent-tasks-most : C.SentTasksMost s'
-  sent-tasks-most g i j n = upd-cases s.books.sent (λ w. w i j + between s 3 g i j ≤ tasks_with s (λ t. is₃ (s.tasks.finish t) (s.tasks.from t) (s.tasks.at t) g i j) 2 8) f (λ i j. 0) g (λ _. omega (arith, inv.sent-tasks-most g i j n)) (λ _. inv.sent-tasks-most g i j n)
+  sent_tasks_most : C.SentTasksMost s'
+  sent_tasks_most g i j n = upd-cases s.books.sent (λ w. w i j + between s 3 g i j ≤ tasks_with s (λ t. is₃ (s.tasks.finish t) (s.tasks.from t) (s.tasks.at t) g i j) 2 8) f (λ i j. 0) g (λ _. omega (arith, inv.sent_tasks_most g i j n)) (λ _. inv.sent_tasks_most g i j n)
 
   local_book : L.LocalBook s'
-  local_book g j h = stays g (λ q. no-live s inv f present closes j (rw q at h)) (inv.local_book g j h)
+  local_book g j h = stays g (λ q. no_live s inv f present closes j (rw q at h)) (inv.local_book g j h)
 
   pub clears : Cleared s'
   clears = search (
@@ -214,22 +214,22 @@ module _ (s : State) (f : ℕ) (inv : InvBut f s) (present : s.books.present f �
     published,
     transits,
     late,
-    report-book,
+    report_book,
     ghost_made,
     ghost_ends,
     asks,
     questions,
-    fresh-book,
+    fresh_book,
     present_mark,
     due_mark,
     adopted_mark,
-    book-made,
-    book-unreleased,
-    active-book,
-    book-counts,
-    due-column,
-    book-parent,
-    adopted-dead,
+    book_made,
+    book_unreleased,
+    active_book,
+    book_counts,
+    due_column,
+    book_parent_lem,
+    adopted_dead,
     orphans,
     book_above,
     skipped,
@@ -239,9 +239,9 @@ module _ (s : State) (f : ℕ) (inv : InvBut f s) (present : s.books.present f �
     no_answer,
     marked,
     asked-dead,
-    sent-from,
-    sent-most,
-    sent-book,
-    sent-tasks-most,
+    sent_from,
+    sent_most,
+    sent_book,
+    sent_tasks_most,
     local_book,
   )

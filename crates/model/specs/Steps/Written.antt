@@ -23,50 +23,50 @@ module _ (s : State) (k : ℕ) (m : Message) (in-range : k < s.slots) where
   same : (t : ℕ) (b : Message → Bool) (n : Message → ℕ) → Elsewhere t → tallied s' t b n ≡ tallied s t b n
   same t b n e = tallied_same s k m in-range t b n e.0 e.1
 
-  pub of-same : (t f : ℕ) → Elsewhere t → of_finish s' t f ≡ of_finish s t f
-  of-same t f e = same t (λ m. eqb m.finish f) (λ m. 1) e
+  pub of_same : (t f : ℕ) → Elsewhere t → of_finish s' t f ≡ of_finish s t f
+  of_same t f e = same t (λ m. eqb m.finish f) (λ m. 1) e
 
-  pub naming-same : (t x : ℕ) → Elsewhere t → naming s' t x ≡ naming s t x
-  naming-same t x e = same t (λ m. eqb m.task x) (λ m. 1) e
+  pub naming_same : (t x : ℕ) → Elsewhere t → naming s' t x ≡ naming s t x
+  naming_same t x e = same t (λ m. eqb m.task x) (λ m. 1) e
 
-  pub between-same : (t f i j : ℕ) → Elsewhere t → between s' t f i j ≡ between s t f i j
-  between-same t f i j e = same t (λ m. is₃ m.finish m.from m.to f i j) (λ m. 1) e
+  pub between_same : (t f i j : ℕ) → Elsewhere t → between s' t f i j ≡ between s t f i j
+  between_same t f i j e = same t (λ m. is₃ m.finish m.from m.to f i j) (λ m. 1) e
 
-  pub reports-same : (f i j : ℕ) → Elsewhere 7 → reports s' f i j ≡ reports s f i j
-  reports-same f i j e = same 7 (λ m. is₂ m.finish m.from f j) (λ m. m.counts i) e
+  pub reports_same : (f i j : ℕ) → Elsewhere 7 → reports s' f i j ≡ reports s f i j
+  reports_same f i j e = same 7 (λ m. is₂ m.finish m.from f j) (λ m. m.counts i) e
 
-  pub answered-same : (f i j : ℕ) → Elsewhere 11 → answered s' f i j ≡ answered s f i j
-  answered-same f i j e = same 11 (λ m. is₃ m.finish m.from m.to f i j) (λ m. m.number) e
+  pub answered_same : (f i j : ℕ) → Elsewhere 11 → answered s' f i j ≡ answered s f i j
+  answered_same f i j e = same 11 (λ m. is₃ m.finish m.from m.to f i j) (λ m. m.number) e
 
   pub publish_once : Elsewhere 1 → Elsewhere 2 → PublishOnce s → PublishOnce s'
-  publish_once a b c f = omega (arith, c f, of-same 1 f a, of-same 2 f b)
+  publish_once a b c f = omega (arith, c f, of_same 1 f a, of_same 2 f b)
 
   pub publish_some : Elsewhere 1 → Elsewhere 2 → PublishSome s → PublishSome s'
-  publish_some a b c f e = omega (arith, c f e, of-same 1 f a, of-same 2 f b)
+  publish_some a b c f e = omega (arith, c f e, of_same 1 f a, of_same 2 f b)
 
   pub named_once : ((t : ℕ) → 0 < t → t < 7 → Elsewhere t) → NamedOnce s → NamedOnce s'
   named_once e c x = omega (
     arith,
     c x,
-    naming-same 1 x (e 1 (omega arith) (omega arith)),
-    naming-same 2 x (e 2 (omega arith) (omega arith)),
-    naming-same 3 x (e 3 (omega arith) (omega arith)),
-    naming-same 4 x (e 4 (omega arith) (omega arith)),
-    naming-same 5 x (e 5 (omega arith) (omega arith)),
-    naming-same 6 x (e 6 (omega arith) (omega arith)),
+    naming_same 1 x (e 1 (omega arith) (omega arith)),
+    naming_same 2 x (e 2 (omega arith) (omega arith)),
+    naming_same 3 x (e 3 (omega arith) (omega arith)),
+    naming_same 4 x (e 4 (omega arith) (omega arith)),
+    naming_same 5 x (e 5 (omega arith) (omega arith)),
+    naming_same 6 x (e 6 (omega arith) (omega arith)),
   )
 
   pub named_publish : Elsewhere 1 → Elsewhere 2 → NamedPublish s → NamedPublish s'
-  named_publish a b c x e = omega (arith, c x e, naming-same 1 x a, naming-same 2 x b)
+  named_publish a b c x e = omega (arith, c x e, naming_same 1 x a, naming_same 2 x b)
 
   pub named_transit : Elsewhere 3 → Elsewhere 4 → Elsewhere 5 → NamedTransit s → NamedTransit s'
-  named_transit a b d c x e = omega (arith, c x e, naming-same 3 x a, naming-same 4 x b, naming-same 5 x d)
+  named_transit a b d c x e = omega (arith, c x e, naming_same 3 x a, naming_same 4 x b, naming_same 5 x d)
 
   pub release_some : Elsewhere 8 → ReleaseSome s → ReleaseSome s'
-  release_some a c f e = omega (arith, c f e, of-same 8 f a)
+  release_some a c f e = omega (arith, c f e, of_same 8 f a)
 
   pub release-none : Elsewhere 8 → ReleaseNone s → ReleaseNone s'
-  release-none a c f n = omega (arith, c f n, of-same 8 f a)
+  release-none a c f n = omega (arith, c f n, of_same 8 f a)
 
   pub ghosts : Elsewhere 9 → Ghosts s → Ghosts s'
   ghosts a c q g = omega (arith, c q g, same 9 (λ m. is₂ m.finish m.number q g) (λ m. 1) a)
@@ -74,28 +74,28 @@ module _ (s : State) (k : ℕ) (m : Message) (in-range : k < s.slots) where
   pub questions : Elsewhere 6 → Elsewhere 10 → Questions s → Questions s'
   questions a b c l h = upd-cases s.slot (QuestionsOf s') k m l
       (λ _ e. absurd (b.1 e))
-      (λ _ e. let r = c l h e in (r.0, omega (arith, r.1, between-same 6 (s.slot l).finish (s.slot l).from (s.slot l).to a), r.2))
+      (λ _ e. let r = c l h e in (r.0, omega (arith, r.1, between_same 6 (s.slot l).finish (s.slot l).from (s.slot l).to a), r.2))
 
   pub counted : Elsewhere 7 → Counted s → Counted s'
-  counted a c f i j p l d = omega (arith, c f i j p l d, reports-same f i j a)
+  counted a c f i j p l d = omega (arith, c f i j p l d, reports_same f i j a)
 
   pub counted-denied : Elsewhere 7 → Elsewhere 11 → CountedDenied s → CountedDenied s'
-  counted-denied a b c f i j p l d = omega (arith, c f i j p l d, reports-same f i j a, answered-same f i j b)
+  counted-denied a b c f i j p l d = omega (arith, c f i j p l d, reports_same f i j a, answered_same f i j b)
 
   pub no_answer : Elsewhere 11 → NoAnswer s → NoAnswer s'
-  no_answer a c f i j p l d = omega (arith, c f i j p l d, answered-same f i j a)
+  no_answer a c f i j p l d = omega (arith, c f i j p l d, answered_same f i j a)
 
   pub marked : Elsewhere 10 → Marked s → Marked s'
-  marked a c f i j p l = omega (arith, c f i j p l, between-same 10 f i j a)
+  marked a c f i j p l = omega (arith, c f i j p l, between_same 10 f i j a)
 
-  pub sent-from : Elsewhere 4 → Elsewhere 6 → SentFrom s → SentFrom s'
-  sent-from a b c f i j p l d = omega (arith, c f i j p l d, between-same 4 f i j a, between-same 6 f i j b)
+  pub sent_from : Elsewhere 4 → Elsewhere 6 → SentFrom s → SentFrom s'
+  sent_from a b c f i j p l d = omega (arith, c f i j p l d, between_same 4 f i j a, between_same 6 f i j b)
 
-  pub sent-most : Elsewhere 6 → SentMost s → SentMost s'
-  sent-most a c f i j p l = omega (arith, c f i j p l, between-same 6 f i j a)
+  pub sent_most : Elsewhere 6 → SentMost s → SentMost s'
+  sent_most a c f i j p l = omega (arith, c f i j p l, between_same 6 f i j a)
 
-  pub sent-tasks-most : Elsewhere 3 → SentTasksMost s → SentTasksMost s'
-  sent-tasks-most a c f i j n = omega (arith, c f i j n, between-same 3 f i j a)
+  pub sent_tasks_most : Elsewhere 3 → SentTasksMost s → SentTasksMost s'
+  sent_tasks_most a c f i j n = omega (arith, c f i j n, between_same 3 f i j a)
 
-  pub reports-most : Elsewhere 7 → ReportsMost s → ReportsMost s'
-  reports-most a c f i j l n = omega (arith, c f i j l n, reports-same f i j a)
+  pub reports_most : Elsewhere 7 → ReportsMost s → ReportsMost s'
+  reports_most a c f i j l n = omega (arith, c f i j l n, reports_same f i j a)

@@ -1,4 +1,4 @@
-use Rattle.plan.proofs.Places.{digit-taken, begins, begins-not, begins_past}
+use Rattle.plan.proofs.Places.{digit-taken, begins, begins_not, begins_past}
 use borrow.Author.Rules.{rules}
 use Rattle.plan.proofs.read_number.Statement.{statement}
 use Rattle.plan.proofs.read_number.Tie as tie
@@ -13,4 +13,4 @@ pub read-number-spec : {M : Type 1} → statement M
 read-number-spec =
     tie.close (tie.spec returns (λ c. search rules) (λ c κs. search rules) (λ c. search rules)
     with-digit-requires (λ c. search rules) (λ c κs. search rules) (λ c. search (rules, begins))
-    (λ c. search (rules, begins-not)))
+    (λ c. search (rules, begins_not)))

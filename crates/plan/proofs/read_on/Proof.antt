@@ -2,7 +2,7 @@ use mathlib.Core.Path.{◌≡◌}
 use Prim.Native.Nat.{◌-◌, ◌≤◌}
 use lib.ListN.{length, drop}
 use Rattle.plan.specs.Reading.{read_on}
-use Rattle.plan.proofs.Places.{goes_taken, number_more, number_stops, number_past}
+use Rattle.plan.proofs.Places.{goes-taken, number_more, number_stops, number_past}
 use borrow.Author.Rules.{rules}
 use Rattle.plan.proofs.read_on.Statement.{statement}
 use Rattle.plan.proofs.read_on.Tie as tie
@@ -14,7 +14,7 @@ abbrev decreases-loop : tie.decreases-loop
 decreases-loop t at v n₀ i₀ n i = length t - i
 
 with-digit-requires : tie.Need-with-digit-requires invariant-loop decreases-loop
-with-digit-requires c κs = goes_taken _ _ _ c.before.before.goes_on.ensures c.before.if1.true
+with-digit-requires c κs = goes-taken _ _ _ c.before.before.goes_on.ensures c.before.if1.true
 
 loop-again : tie.Need-loop-preserved invariant-loop decreases-loop
 loop-again c = (search rules, search (rules, number_more))

@@ -2,7 +2,7 @@ use Prim.Native.Nat.{◌≤◌, ◌-◌}
 use mathlib.Core.Path.{◌≡◌, refl}
 use lib.ListN.{drop}
 use Rattle.tables.specs.Walks.{every_part}
-use Rattle.tables.proofs.Places.{book-place}
+use Rattle.tables.proofs.Places.{book_place_lem}
 use Rattle.tables.proofs.Walks.{parts_left, parts_none, parts_pass, parts_stop, parts_done}
 use Rattle.rules.specs.Fields.{places, dead_mask, book_place}
 use Rattle.rules.specs.Quiet.{calm_book}
@@ -20,11 +20,11 @@ loop-holds : tie.Need-loop-init invariant-loop decreases-loop
 loop-holds c = (search rules, (refl, (refl, search (rules, parts_none))))
 
 loop-again : tie.Need-loop-preserved invariant-loop decreases-loop
-loop-again c = (search rules, (search rules, (search rules, search (rules, parts_pass, book-place))))
+loop-again c = (search rules, (search rules, (search rules, search (rules, parts_pass, book_place_lem))))
 
 pub books-calm-spec : {M : Type 1} → statement M
 books-calm-spec =
     tie.close (tie.spec invariant-loop decreases-loop (λ c. search rules) (λ c. search rules) loop-holds
     (λ c. search rules) (λ c κs. search rules) (λ c. search rules) (λ c κs. search rules)
-    (λ c. search rules) (λ c. search rules) loop-again (λ c. search (rules, parts_stop, book-place))
+    (λ c. search rules) (λ c. search rules) loop-again (λ c. search (rules, parts_stop, book_place_lem))
     (λ c. search (rules, parts_done)))

@@ -2,7 +2,7 @@ use mathlib.Core.Path.{◌≡◌}
 use Prim.Native.Nat.{◌-◌}
 use native.Mathlib.Omega.{arith}
 use lib.ListN.{length}
-use Rattle.run.proofs.Running.{Running, running_none, running_room, running-counts, running-next, running-ends}
+use Rattle.run.proofs.Running.{Running, running_none, running_room, running-counts, running-next, running_ends}
 use borrow.Author.Rules.{rules}
 use Rattle.run.proofs.grow.Statement.{statement}
 use Rattle.run.proofs.grow.Tie as tie
@@ -36,7 +36,7 @@ loop-again c = (
 
 returns : tie.Need-returns invariant-loop decreases-loop
 returns c =
-    running-ends c.before.before.before.before.before.before.before.before.before.requires.1.0 c.before.before.before.before.before.before.loop.invariant.0.0 c.before.before.before.before.before.before.loop.invariant.1 c.before.before.before.before.next-step.result c.before.before.before.before.next-step.ensures.0 c.if1.true _ c.before.before.before.before.next-step.ensures.1
+    running_ends c.before.before.before.before.before.before.before.before.before.requires.1.0 c.before.before.before.before.before.before.loop.invariant.0.0 c.before.before.before.before.before.before.loop.invariant.1 c.before.before.before.before.next-step.result c.before.before.before.before.next-step.ensures.0 c.if1.true _ c.before.before.before.before.next-step.ensures.1
 
 pub grow_spec : {M : Type 1} → statement M
 grow_spec =

@@ -1,6 +1,6 @@
 use native.Mathlib.Omega.{arith}
 use Rattle.plan.proofs.Ranges.{ranges}
-use Rattle.run.proofs.Running.{begin-first, turn_later}
+use Rattle.run.proofs.Running.{begin_first, turn_later}
 use borrow.Author.Rules.{rules}
 use Rattle.run.proofs.next_step.Statement.{statement}
 use Rattle.run.proofs.next_step.Tie as tie
@@ -9,7 +9,7 @@ cast-t7 : tie.Need-overflow-cast-t7
 cast-t7 c = let fit = ranges _ c.before.before.before.before.requires.1 in search (rules, fit)
 
 returns : tie.Need-returns
-returns c = rw (begin-first _ _ _ c.before.before.before.before.before.if1.true) c.before.before.play.ensures
+returns c = rw (begin_first _ _ _ c.before.before.before.before.before.if1.true) c.before.before.play.ensures
 
 turn-requires : tie.Need-turn-requires
 turn-requires c κs = let fit = ranges _ c.before.before.before.requires.1 in (search rules, (fit.levels.1, ((omega (arith, fit.places), fit.places.1), omega (arith, fit.victim, fit.places))))

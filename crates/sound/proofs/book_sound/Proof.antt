@@ -7,7 +7,7 @@ use Rattle.sound.proofs.book_sound.Tie as tie
 
 returns : tie.Need-returns
 unfolding book_sound
-returns c = simp (get_or-drop, add-zero) (rw (c.before.before.before.wide2.ensures.0, c.before.before.before.before.before.before.wide.ensures.0) at c.book-fits.ensures)
+returns c = simp (get_or-drop, add-zero) (rw (c.before.before.before.wide2.ensures.0, c.before.before.before.before.before.before.wide.ensures.0) at c.book_fits.ensures)
 
 pub book-sound-spec : {M : Type 1} → statement M
 book-sound-spec =

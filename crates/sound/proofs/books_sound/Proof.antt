@@ -1,6 +1,6 @@
 use Prim.Native.Nat.{◌≤◌, ◌-◌}
 use mathlib.Core.Path.{◌≡◌}
-use Rattle.tables.proofs.Places.{book-place}
+use Rattle.tables.proofs.Places.{book_place_lem}
 use Rattle.tables.proofs.Walks.{parts_left, parts_none, parts_pass, parts_stop, parts_done}
 use Rattle.rules.specs.Sound.{book_sound, books_sound}
 use borrow.Author.Rules.{rules}
@@ -18,10 +18,10 @@ unfolding books_sound
 loop-holds c = (search rules, search (rules, parts_none))
 
 loop-again : tie.Need-loop-preserved invariant-loop decreases-loop
-loop-again c = (search rules, search (rules, parts_pass, book-place))
+loop-again c = (search rules, search (rules, parts_pass, book_place_lem))
 
 pub books-sound-spec : {M : Type 1} → statement M
 books-sound-spec =
     tie.close (tie.spec invariant-loop decreases-loop loop-holds (λ c. search rules) (λ c κs. search rules)
     (λ c. search rules) (λ c κs. search rules) (λ c. search rules) (λ c. search rules) loop-again
-    (λ c. search (rules, parts_stop, book-place)) (λ c. search (rules, parts_done)))
+    (λ c. search (rules, parts_stop, book_place_lem)) (λ c. search (rules, parts_done)))

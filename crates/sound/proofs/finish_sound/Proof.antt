@@ -7,7 +7,7 @@ use Rattle.sound.proofs.finish_sound.Tie as tie
 
 returns : tie.Need-returns
 unfolding finish_sound
-returns c = simp (get_or-drop, add-zero) (rw c.before.before.before.before.wide.ensures.0 at c.finish-fits.ensures)
+returns c = simp (get_or-drop, add-zero) (rw c.before.before.before.before.wide.ensures.0 at c.finish_fits.ensures)
 
 pub finish-sound-spec : {M : Type 1} → statement M
 finish-sound-spec =

@@ -8,7 +8,7 @@ use Rattle.spawn.proofs.is_first.Tie as tie
 
 returns-2 : tie.Need-returns-2
 unfolding is_first every
-returns-2 c = was_true _ _ _ _ _ c.before.before.before.is-main.ensures c.before.before.if1.true
+returns-2 c = was_true _ _ _ _ _ c.before.before.before.is_main.ensures c.before.before.if1.true
     (rw (c.finish-byte.ensures, c.before.task-byte.ensures) (last _ _ refl))
 
 pub is-first-spec : {M : Type 1} → statement M

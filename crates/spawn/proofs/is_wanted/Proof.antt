@@ -6,7 +6,7 @@ use Rattle.spawn.proofs.is_wanted.Tie as tie
 
 returns-2 : tie.Need-returns-2
 unfolding spawn_wanted
-returns-2 c = was_true _ _ _ _ _ c.before.before.before.is-main.ensures c.before.before.if1.true (rw (c.finish-byte.ensures, c.before.task-byte.ensures))
+returns-2 c = was_true _ _ _ _ _ c.before.before.before.is_main.ensures c.before.before.if1.true (rw (c.finish-byte.ensures, c.before.task-byte.ensures))
 
 pub is-wanted-spec : {M : Type 1} → statement M
 unfolding spawn_wanted

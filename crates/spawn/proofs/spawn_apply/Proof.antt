@@ -1,5 +1,5 @@
 use Rattle.spawn.proofs.Laws.{spawn_room}
-use Rattle.messages.proofs.Slots.{found-slot, found_full}
+use Rattle.messages.proofs.Slots.{found_slot, found_full}
 use mathlib.Core.Bool.{true≢false}
 use mathlib.Core.Path.{sym, ◌∙◌}
 use borrow.Author.Rules.{rules}
@@ -11,7 +11,7 @@ send-task-requires c κs = (
   search rules,
   (
     (spawn_room _ _ _ c.before.before.before.before.before.before.before.requires.1).0,
-    found-slot _ _ (sym c.before.before.before.before.lowest_empty.ensures ∙ c.before.before.s.given.1),
+    found_slot _ _ (sym c.before.before.before.before.lowest_empty.ensures ∙ c.before.before.s.given.1),
   ),
 )
 

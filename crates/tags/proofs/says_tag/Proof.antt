@@ -1,5 +1,5 @@
-use Rattle.wanted.proofs.Tags.{says-denied}
-use Rattle.tags.proofs.Laws.{tag_1, tag_2, tag_3, tag_4, tag_5, tag_6, tag_7, tag_8, tag_9, tag_10, tag_11, tag-rest, says_at, says_none, count_dropped_in, dropped_in, ghost_in_lem, publish_in, report_in, task_in, transit_in}
+use Rattle.wanted.proofs.Tags.{says_denied}
+use Rattle.tags.proofs.Laws.{tag_1, tag_2, tag_3, tag_4, tag_5, tag_6, tag_7, tag_8, tag_9, tag_10, tag_11, tag_rest, says_at, says_none, count_dropped_in, dropped_in, ghost_in_lem, publish_in, report_in, task_in, transit_in}
 use mathlib.Core.Path.{sym, ◌∙◌}
 use Rattle.tags.proofs.says_tag.Statement.{statement}
 use Rattle.tags.proofs.says_tag.Tie as tie
@@ -50,7 +50,7 @@ returns-4 : tie.Need-returns-4
 returns-4 c = says_at _ _ _ (c.before.before.before.requires.1.1 ∙ tag_4 _ _ _ _ _ _ _ c.before.match.keys4) _ c.granted-says.ensures
 
 returns-5 : tie.Need-returns-5
-returns-5 c = says_at _ _ _ (c.before.before.before.requires.1.1 ∙ tag_5 _ _ _ _ _ _ _ c.before.match.keys5) _ (c.granted-says2.ensures ∙ sym (says-denied _ _ _ _ _))
+returns-5 c = says_at _ _ _ (c.before.before.before.requires.1.1 ∙ tag_5 _ _ _ _ _ _ _ c.before.match.keys5) _ (c.granted-says2.ensures ∙ sym (says_denied _ _ _ _ _))
 
 returns-6 : tie.Need-returns-6
 returns-6 c = says_at _ _ _ (c.before.before.before.requires.1.1 ∙ tag_6 _ _ _ _ _ _ _ c.before.match.keys6) _ c.task-says.ensures
@@ -71,7 +71,7 @@ returns-11 : tie.Need-returns-11
 returns-11 c = says_at _ _ _ (c.before.before.before.requires.1.1 ∙ tag_11 _ _ _ _ _ _ _ c.before.match.keys11) _ c.dropped-says.ensures
 
 returns-12 : tie.Need-returns-12
-returns-12 c = says_at _ _ _ (c.before.before.requires.1.1 ∙ tag-rest _ _ _ _ _ _ _ c.match.rest) _ (sym (says_none _))
+returns-12 c = says_at _ _ _ (c.before.before.requires.1.1 ∙ tag_rest _ _ _ _ _ _ _ c.match.rest) _ (sym (says_none _))
 
 pub says-tag-spec : {M : Type 1} → statement M
 says-tag-spec =

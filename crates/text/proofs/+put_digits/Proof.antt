@@ -1,4 +1,4 @@
-use Rattle.text.proofs.Digits.{room_falls, put_one, end-one, put_more, end_more}
+use Rattle.text.proofs.Digits.{room_falls, put_one, end_one, put_more, end_more}
 use borrow.Author.Rules.{rules}
 use Prim.Native.Nat.{ℕ, ◌<◌}
 use borrow.Fn.Kinds.{In}
@@ -60,7 +60,7 @@ put-digits-returns :
     (put-digits-below t, put-digits.Post)
     (put-digits-at t)
     put-digits.Post
-put-digits-returns t c = (search (rules, put_one), (search (rules, end-one), search rules))
+put-digits-returns t c = (search (rules, put_one), (search (rules, end_one), search rules))
 
 put-digits-sub-put-digits : (t : ℕ) → put-digits-lts.Need-overflow-sub-put-digits (
   put-digits-below t,

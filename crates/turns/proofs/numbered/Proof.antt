@@ -1,6 +1,6 @@
 use native.Mathlib.Omega.{arith}
 use Rattle.turns.specs.Numbered.{most_of}
-use Rattle.turns.proofs.Records.{is_deliver, is_adopt, is_cancel, is_ask, ask-most}
+use Rattle.turns.proofs.Records.{is_deliver, is_adopt, is_cancel, is_ask, ask_most}
 use borrow.Author.Rules.{rules}
 use Rattle.turns.proofs.numbered.Statement.{statement}
 use Rattle.turns.proofs.numbered.Tie as tie
@@ -22,7 +22,7 @@ unfolding most_of
 cast-t9 c = let h = rw c.match.keys3 at c.before.requires in record { fits = omega arith }
 
 cast-t14 : tie.Need-overflow-cast-t14
-cast-t14 c = let h = ask-most _ _ c.match.rest.0.0.1 c.match.rest.0.1 c.match.rest.1 c.before.requires in record { fits = omega arith }
+cast-t14 c = let h = ask_most _ _ c.match.rest.0.0.1 c.match.rest.0.1 c.match.rest.1 c.before.requires in record { fits = omega arith }
 
 returns : tie.Need-returns
 returns c = rw c.match.keys1 (is_deliver _)

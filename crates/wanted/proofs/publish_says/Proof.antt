@@ -1,12 +1,12 @@
 use Rattle.tables.proofs.Tests.{was_true, was_false}
-use Rattle.wanted.proofs.Tags.{says-publish}
+use Rattle.wanted.proofs.Tags.{says_publish}
 use borrow.Author.Rules.{rules}
 use Rattle.wanted.proofs.publish_says.Statement.{statement}
 use Rattle.wanted.proofs.publish_says.Tie as tie
 
 pub publish-says-spec : {M : Type 1} → statement M
 publish-says-spec =
-    tie.close (tie.spec (λ c κs. search rules) (λ c. rw says-publish (search was_true depth 20))
-    (λ c κs. search rules) (λ c. rw says-publish (search was_false depth 20)) (λ c κs. search rules)
-    (λ c. rw says-publish (search (was_false, was_true) depth 20))
-    (λ c. rw says-publish (search (was_false, was_true) depth 20)))
+    tie.close (tie.spec (λ c κs. search rules) (λ c. rw says_publish (search was_true depth 20))
+    (λ c κs. search rules) (λ c. rw says_publish (search was_false depth 20)) (λ c κs. search rules)
+    (λ c. rw says_publish (search (was_false, was_true) depth 20))
+    (λ c. rw says_publish (search (was_false, was_true) depth 20)))

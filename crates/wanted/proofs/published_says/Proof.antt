@@ -1,12 +1,12 @@
 use Rattle.tables.proofs.Tests.{was_true, was_false}
-use Rattle.wanted.proofs.Tags.{says-published}
+use Rattle.wanted.proofs.Tags.{says_published}
 use borrow.Author.Rules.{rules}
 use Rattle.wanted.proofs.published_says.Statement.{statement}
 use Rattle.wanted.proofs.published_says.Tie as tie
 
 pub published-says-spec : {M : Type 1} → statement M
 published-says-spec =
-    tie.close (tie.spec (λ c κs. search rules) (λ c. rw says-published (search was_true depth 20))
-    (λ c κs. search rules) (λ c. rw says-published (search was_false depth 20))
-    (λ c κs. search rules) (λ c. rw says-published (search (was_false, was_true) depth 20))
-    (λ c. rw says-published (search (was_false, was_true) depth 20)))
+    tie.close (tie.spec (λ c κs. search rules) (λ c. rw says_published (search was_true depth 20))
+    (λ c κs. search rules) (λ c. rw says_published (search was_false depth 20))
+    (λ c κs. search rules) (λ c. rw says_published (search (was_false, was_true) depth 20))
+    (λ c. rw says_published (search (was_false, was_true) depth 20)))

@@ -1,12 +1,12 @@
 use Rattle.tables.proofs.Tests.{was_true, was_false}
-use Rattle.wanted.proofs.Tags.{says-release}
+use Rattle.wanted.proofs.Tags.{says_release}
 use borrow.Author.Rules.{rules}
 use Rattle.wanted.proofs.release_says.Statement.{statement}
 use Rattle.wanted.proofs.release_says.Tie as tie
 
 pub release-says-spec : {M : Type 1} → statement M
 release-says-spec =
-    tie.close (tie.spec (λ c κs. search rules) (λ c. rw says-release (search was_true depth 20))
-    (λ c κs. search rules) (λ c. rw says-release (search was_false depth 20)) (λ c κs. search rules)
-    (λ c. rw says-release (search (was_false, was_true) depth 20))
-    (λ c. rw says-release (search (was_false, was_true) depth 20)))
+    tie.close (tie.spec (λ c κs. search rules) (λ c. rw says_release (search was_true depth 20))
+    (λ c κs. search rules) (λ c. rw says_release (search was_false depth 20)) (λ c κs. search rules)
+    (λ c. rw says_release (search (was_false, was_true) depth 20))
+    (λ c. rw says_release (search (was_false, was_true) depth 20)))

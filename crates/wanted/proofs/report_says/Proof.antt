@@ -1,13 +1,13 @@
 use Rattle.tables.proofs.Tests.{was_true, was_false}
-use Rattle.wanted.proofs.Tags.{says-report}
+use Rattle.wanted.proofs.Tags.{says_report}
 use borrow.Author.Rules.{rules}
 use Rattle.wanted.proofs.report_says.Statement.{statement}
 use Rattle.wanted.proofs.report_says.Tie as tie
 
 pub report-says-spec : {M : Type 1} → statement M
 report-says-spec =
-    tie.close (tie.spec (λ c κs. search rules) (λ c. rw says-report (search was_true depth 20))
-    (λ c κs. search rules) (λ c. rw says-report (search (was_false, was_true) depth 20))
-    (λ c κs. search rules) (λ c. rw says-report (search (was_false, was_true) depth 20))
-    (λ c κs. search rules) (λ c. rw says-report (search was_false depth 20))
-    (λ c. rw says-report (search (was_false, was_true) depth 20)))
+    tie.close (tie.spec (λ c κs. search rules) (λ c. rw says_report (search was_true depth 20))
+    (λ c κs. search rules) (λ c. rw says_report (search (was_false, was_true) depth 20))
+    (λ c κs. search rules) (λ c. rw says_report (search (was_false, was_true) depth 20))
+    (λ c κs. search rules) (λ c. rw says_report (search was_false depth 20))
+    (λ c. rw says_report (search (was_false, was_true) depth 20)))

@@ -1,14 +1,14 @@
 use Rattle.tables.proofs.Tests.{was_true, was_false}
-use Rattle.wanted.proofs.Tags.{says-task}
+use Rattle.wanted.proofs.Tags.{says_task}
 use borrow.Author.Rules.{rules}
 use Rattle.wanted.proofs.task_says.Statement.{statement}
 use Rattle.wanted.proofs.task_says.Tie as tie
 
 pub task-says-spec : {M : Type 1} → statement M
 task-says-spec =
-    tie.close (tie.spec (λ c κs. search rules) (λ c. rw says-task (search was_true depth 20))
-    (λ c κs. search rules) (λ c. rw says-task (search (was_false, was_true) depth 20))
-    (λ c κs. search rules) (λ c. rw says-task (search was_false depth 20)) (λ c κs. search rules)
-    (λ c. rw says-task (search (was_false, was_true) depth 20)) (λ c κs. search rules)
-    (λ c. rw says-task (search (was_false, was_true) depth 20))
-    (λ c. rw says-task (search (was_false, was_true) depth 20)))
+    tie.close (tie.spec (λ c κs. search rules) (λ c. rw says_task (search was_true depth 20))
+    (λ c κs. search rules) (λ c. rw says_task (search (was_false, was_true) depth 20))
+    (λ c κs. search rules) (λ c. rw says_task (search was_false depth 20)) (λ c κs. search rules)
+    (λ c. rw says_task (search (was_false, was_true) depth 20)) (λ c κs. search rules)
+    (λ c. rw says_task (search (was_false, was_true) depth 20))
+    (λ c. rw says_task (search (was_false, was_true) depth 20)))

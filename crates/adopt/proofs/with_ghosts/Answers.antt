@@ -1,0 +1,7 @@
+use native.Mathlib.Omega.{arith}
+use Rattle.adopt.proofs.Marks.{ghosts-sum}
+use borrow.Author.Rules.{rules}
+use Rattle.adopt.proofs.with_ghosts.Goals as goal
+
+pub returns : goal.returns
+returns c = rw (ghosts-sum _ _ _ _) (omega arith)

@@ -1,0 +1,6 @@
+use native.Mathlib.Nat.{add-zero}
+use borrow.Author.Rules.{rules}
+use Rattle.books.proofs.present_of.Goals as goal
+
+pub returns : goal.returns
+returns c = rw (c.book-a.ensures, add-zero)

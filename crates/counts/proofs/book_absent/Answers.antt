@@ -1,0 +1,7 @@
+use Rattle.rules.specs.Deliver.{book_absent}
+use borrow.Author.Rules.{rules}
+use Rattle.counts.proofs.book_absent.Goals as goal
+
+pub returns : goal.returns
+unfolding book_absent
+returns c = rw c.book_byte.ensures

@@ -1,0 +1,10 @@
+use borrow.Author.Rules.{rules}
+use Rattle.counts.proofs.sent_at.Goals as goal
+
+pub returns : goal.returns
+returns c =
+    rw (
+      c.book_byte.ensures,
+      c.wide-2.ensures.0,
+      c.wide.ensures.0,
+    )

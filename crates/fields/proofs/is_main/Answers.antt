@@ -1,0 +1,7 @@
+use Rattle.rules.specs.Fields.{is_main}
+use borrow.Author.Rules.{rules}
+use Rattle.fields.proofs.is_main.Goals as goal
+
+pub returns : goal.returns
+unfolding is_main
+returns c = rw c.task_byte.ensures

@@ -1,0 +1,5 @@
+use borrow.Author.Rules.{rules}
+use Rattle.fields.proofs.put_status.Goals as goal
+
+pub returns : goal.returns
+returns c = rw c.wide.ensures.0

@@ -1,0 +1,5 @@
+use borrow.Author.Rules.{rules}
+use Rattle.ranges.proofs.bits_from.Goals as goal
+
+pub returns : goal.returns
+returns c = rw c.wide.ensures.0

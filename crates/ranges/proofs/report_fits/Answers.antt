@@ -1,0 +1,20 @@
+use Rattle.tables.specs.Walks.{every}
+use Rattle.tables.proofs.Tests.{plain}
+use Rattle.rules.specs.Sound.{message_fits}
+use Rattle.ranges.proofs.report_fits.Goals as goal
+
+pub returns-then-f-lt1 : goal.returns-then-f-lt1
+unfolding message_fits every
+returns-then-f-lt1 c = λ ts counts. search plain depth 20
+
+pub returns-then-fs-f : goal.returns-then-fs-f
+unfolding message_fits every
+returns-then-fs-f c = λ ts counts. search plain depth 20
+
+pub returns-then-ps-from : goal.returns-then-ps-from
+unfolding message_fits every
+returns-then-ps-from c = λ ts counts. search plain depth 20
+
+pub returns : goal.returns
+unfolding message_fits every
+returns c = λ ts counts. search plain depth 20

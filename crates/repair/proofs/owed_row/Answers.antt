@@ -1,0 +1,16 @@
+use Prim.Native.Nat.{◌≤◌}
+use mathlib.Core.Path.{◌≡◌}
+use Rattle.tables.specs.Walks.{some_below}
+use Rattle.rules.specs.Books.{owed_cell}
+use Rattle.tables.proofs.Below.{some_pass, some_stop, some_done}
+use borrow.Author.Rules.{rules}
+use Rattle.repair.proofs.owed_row.Goals as goal
+
+pub returns-then-owed_cell : goal.returns-then-owed_cell
+returns-then-owed_cell c = search (rules, some_stop)
+
+pub loop-n-preserved : goal.loop-n-preserved
+loop-n-preserved c = (search rules, search (rules, some_pass))
+
+pub returns : goal.returns
+returns c = search (rules, some_done)

@@ -1,0 +1,7 @@
+use Rattle.rules.specs.Books.{ghosts}
+use borrow.Author.Rules.{rules}
+use Rattle.square.proofs.ghosts_of.Goals as goal
+
+pub returns : goal.returns
+unfolding ghosts
+returns c = c.sum_of.ensures.0

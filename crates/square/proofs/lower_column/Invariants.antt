@@ -1,0 +1,15 @@
+use Prim.Native.Nat.{◌-◌, ◌≤◌}
+use mathlib.Core.Path.{◌≡◌}
+use lib.ListN.{length}
+use Rattle.tables.specs.Walks.{change_parts}
+use Rattle.tables.proofs.Changes.{change_none, change_done}
+use Rattle.rules.specs.Books.{lower_row, lowered_column}
+use Rattle.square.proofs.Columns.{lower_more}
+use borrow.Author.Rules.{rules}
+use Rattle.square.proofs.lower_column.Given as goal
+
+abbrev pub invariant-loop-j : goal.invariant-loop-j
+invariant-loop-j l = (l.j ≤ 8) × ((length l.b ≡ length l.initial.b) × (l.b ≡ change_parts (lower_row l.v l.counts) 8 0 l.j 8 l.initial.b))
+
+abbrev pub decreases-loop-j : goal.decreases-loop-j
+decreases-loop-j l = 8 - l.j
