@@ -44,6 +44,9 @@ LABELS = [
     (r"^home t\.old f < 8$", "home"),
     (r"≤ 15104$|^schedule_len|^\(length schedule", "inside"),
 ]
+# Crates whose fields share no scope with the functions of the rules.
+MODELS = ("crates/model/", "crates/witness/")
+HYPOTHESES = {"end-wanted", "first-from", "is-main", "is-published", "may-run"}
 OVERRIDE = {
     "bit-or": "bit_at-bit_or",
     "climb-goes-on": "climb_goes_on",
@@ -140,6 +143,15 @@ def apart(out, own, public):
                 out[n] = new + "_lem"
 
 
+def scoped(text, p, out, parts):
+    """A field keeps its plain name where nothing else in scope bears it: in the model, which cites no rules, and behind a dot."""
+    for n in sorted(n for n in parts | HYPOTHESES if out.get(n, "").endswith("_lem")):
+        new = out[n]
+        before = r"(?<![\w'.-])" if p.startswith(MODELS) else r"(?<=\.)"
+        text = re.sub(rf"{before}{new}(?![\w'-])|(?<=\.){new}(?![\w'-])", new.removesuffix("_lem"), text)
+    return text
+
+
 def labels(text):
     def label(m):
         if not AUTOMATIC.match(m.group(2)):
@@ -180,7 +192,7 @@ def main():
     for p in sorted(files):
         old = read(p)
         if p.endswith(".antt"):
-            new = respell(old, out, of_function(p))
+            new = scoped(respell(old, out, of_function(p)), p, out, parts)
         else:
             pieces = re.split(r'("(?:[^"\\\n]|\\.)*")', old)
             new = "".join(t if i % 2 else respell(t, camel) for i, t in enumerate(pieces))

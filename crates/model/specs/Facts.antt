@@ -50,7 +50,7 @@ module _ {c : ℕ} (s : State) (inv : InvBut c s) where
       one_reason b (omega (
         arith,
         inv.blocked b o,
-        sum_ge (suc s.finishes.made) (λ f. weigh (eqb (s.finishes.opener f) b) 1 3 (s.finishes.status f)) g (omega (arith, inv.finish_made_lem g (omega arith))),
+        sum_ge (suc s.finishes.made) (λ f. weigh (eqb (s.finishes.opener f) b) 1 3 (s.finishes.status f)) g (omega (arith, inv.finish_made g (omega arith))),
         weigh_in (eqb b b) 1 3 (s.finishes.status g) l h,
         on_true (eqb b b) 1 (eq-eqb b b refl),
       ))
@@ -73,7 +73,7 @@ module _ {c : ℕ} (s : State) (inv : InvBut c s) where
       let j = s.tasks.at t in
       omega (
         arith,
-        inv.local_live_lem f j,
+        inv.local_live f j,
         sum_ge (suc s.tasks.made) (λ x. weigh (is₃ (s.tasks.sent x) (s.tasks.finish x) (s.tasks.at x) 1 f j) 5 6 (s.tasks.status x)) t (omega (arith, inv.sent_made t (omega arith))),
         weigh_in (is₃ (s.tasks.sent t) f j 1 f j) 5 6 (s.tasks.status t) l h,
         on_true (is₃ (s.tasks.sent t) f j 1 f j) 1 (rw e (is₃_same 1 f j)),
@@ -83,7 +83,7 @@ module _ {c : ℕ} (s : State) (inv : InvBut c s) where
   pub counted_busy : (f j : ℕ) → 0 < s.locals.live f j
       → (t : ℕ) × (t ≤ s.tasks.made) × (5 ≤ s.tasks.status t) × (s.tasks.status t ≤ 6) × (s.tasks.finish t ≡ f) × (s.tasks.at t ≡ j)
   counted_busy f j h =
-      let r = sum_some (suc s.tasks.made) (λ x. weigh (is₃ (s.tasks.sent x) (s.tasks.finish x) (s.tasks.at x) 1 f j) 5 6 (s.tasks.status x)) (omega (arith, inv.local_live_lem f j)) in
+      let r = sum_some (suc s.tasks.made) (λ x. weigh (is₃ (s.tasks.sent x) (s.tasks.finish x) (s.tasks.at x) 1 f j) 5 6 (s.tasks.status x)) (omega (arith, inv.local_live f j)) in
       let t = r.0 in
       let w = weigh_some (is₃ (s.tasks.sent t) (s.tasks.finish t) (s.tasks.at t) 1 f j) 5 6 (s.tasks.status t) r.2 in
       let k = is₃_true (s.tasks.sent t) (s.tasks.finish t) (s.tasks.at t) 1 f j w.0 in

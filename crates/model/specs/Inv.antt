@@ -31,8 +31,8 @@ pub record InvBut (x : ℕ) (s : State) : Type 0 where
   pub opened : Opened s
   pub mains : Mains s
   pub finish_statuses : FinishStatuses s
-  pub published_mark_lem : PublishedMark s
-  pub finish_made_lem : FinishMade s
+  pub published_mark : PublishedMark s
+  pub finish_made : FinishMade s
   pub published_made : PublishedMade s
   pub blank_finishes : BlankFinishes s
   -- Statuses
@@ -86,7 +86,7 @@ pub record InvBut (x : ℕ) (s : State) : Type 0 where
   pub active_book : ActiveBook s
   pub book_counts : BookCountsBut x s
   pub due_column : DueColumn s
-  pub book_parent_lem : BookParent s
+  pub book_parent : BookParent s
   pub adopted_dead : AdoptedDead s
   pub orphans : Orphans s
   pub book_above : BookAbove s
@@ -104,7 +104,7 @@ pub record InvBut (x : ℕ) (s : State) : Type 0 where
   pub sent_book : SentBook s
   pub sent_tasks_most : SentTasksMost s
   -- Locals
-  pub local_live_lem : LocalLive s
+  pub local_live : LocalLive s
   pub reported_most : ReportedMost s
   pub pending : Pending s
   pub unreported : Unreported s

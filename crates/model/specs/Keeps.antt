@@ -1,7 +1,7 @@
 -- Every move keeps the invariant.
 use Rattle.std.specs.Prelude.{ℕ}
 use Rattle.model.specs.State.{State}
-use Rattle.model.specs.Step.{Spawn, spawns_first, spawns_later, End, ends_unpublished, ends_published, ends_other, ends_last, kills, Settle, adopts, cancels, asks, discards, delivers_publish, delivers_published, delivers_transit, refuses_transit, delivers_granted, loses_granted, delivers_denied, delivers_task, refuses_task, delivers_report, delivers_release, delivers_ghost_ended, delivers_count_dropped, delivers_dropped, Move, spawns, opens, ends, loses, settles}
+use Rattle.model.specs.Step.{Spawn, spawns_first, spawns_later, End, ends_unpublished, ends_published, ends_other, ends_last, Kill, kills, Settle, adopts, cancels, asks, discards, delivers_publish, delivers_published, delivers_transit, refuses_transit, delivers_granted, loses_granted, delivers_denied, delivers_task, refuses_task, delivers_report, delivers_release, delivers_ghost_ended, delivers_count_dropped, delivers_dropped, Move, spawns, opens, ends, loses, settles}
 use Rattle.model.specs.Inv.{Inv}
 use Rattle.model.specs.Steps.SpawnFirst.{spawns_first_keeps}
 use Rattle.model.specs.Steps.SpawnLater.{spawns_later_keeps}
@@ -57,9 +57,12 @@ settle_keeps {s} inv (delivers_ghost_ended k a b c d) = delivers_ghost_ended_kee
 settle_keeps {s} inv (delivers_count_dropped k a b c) = delivers_count_dropped_keeps s k inv a
 settle_keeps {s} inv (delivers_dropped k a b c d e) = delivers_dropped_keeps s k inv a b d c e
 
+kill_keeps : {s : State} {p : ℕ} {s' : State} → Inv s → Kill s p s' → Inv s'
+kill_keeps {s} {p = p} inv (kills a b c) = kills_keeps s p inv a b c
+
 pub move_keeps : {s s' : State} → Inv s → Move s s' → Inv s'
 move_keeps inv (spawns t p m) = spawn_keeps inv m
 move_keeps {s} inv (opens t r) = opens_keeps s t inv r
 move_keeps inv (ends t m) = end_keeps inv m
-move_keeps {s} inv (loses p (kills a b c)) = kills_keeps s p inv a b c
+move_keeps inv (loses p m) = kill_keeps inv m
 move_keeps inv (settles m) = settle_keeps inv m

@@ -92,7 +92,7 @@ module _ (t : List ℕ) (good : Good t) where
         at (2048 + 8 * j) 5 (place (finish_row (1 + j)) 5) (omega arith) ∙ read_main s (1 + j) (omega arith) (omega arith),
         read_places s,
         read_tasks_made s,
-      ) (finish_fits_lem (inv.finish_ranges (1 + j) (omega arith) l) (inv.finish_statuses (1 + j) (omega arith) l) (inv.published_mark_lem (1 + j)))
+      ) (finish_fits_lem (inv.finish_ranges (1 + j) (omega arith) l) (inv.finish_statuses (1 + j) (omega arith) l) (inv.published_mark (1 + j)))
 
   book_sound_lem : (j : ℕ) → j < 32 → book_sound (finishes_made t) (drop (2304 + 144 * j) t) (1 + j) ≡ true
   unfolding book_sound
@@ -104,7 +104,7 @@ module _ (t : List ℕ) (good : Good t) where
         at (2304 + 144 * j) 3 (place (book_row (1 + j)) 3) (omega arith) ∙ read_adopted s (1 + j) (omega arith) (omega arith),
         read_finishes_made s,
       ) (book_fits_lem (inv.present_mark (1 + j)) (inv.due_mark (1 + j)) (inv.adopted_mark (1 + j))
-      (λ e. ((inv.book_made (1 + j) e).1, (inv.book_parent_lem (1 + j) e).0, λ y. (inv.orphans (1 + j) e (inv.adopted_dead (1 + j) y)).0)))
+      (λ e. ((inv.book_made (1 + j) e).1, (inv.book_parent (1 + j) e).0, λ y. (inv.orphans (1 + j) e (inv.adopted_dead (1 + j) y)).0)))
 
   rows-sound : rows_sound (places t) (tasks_made t) (finishes_made t) t ≡ true
   unfolding rows_sound tasks_sound finishes_sound books_sound slots_sound

@@ -86,7 +86,7 @@ module _ (t : List ℕ) (good : Good t) where
     end_main_finds : (view t).tasks.sent k ≡ 0 → end_main_wanted t f ≡ true
     unfolding end_main_wanted
     end_main_finds e =
-        let o = blocked-runs s ((view t).finishes.opener f) own.opener (Wanted.end_wanted_lem (view t) inv k runs e) in
+        let o = blocked-runs s ((view t).finishes.opener f) own.opener (Wanted.end_wanted (view t) inv k runs e) in
         each_every (eqb (finish_status t f) 1 ∷ cond (eqb (is_published t f) 0) (may_run t (opener t f)) true ∷ [])
         (main_active e, (if_so (eqb (is_published t f) 0) (may_run t (opener t f)) (rw (read_opener s f f0 f33) o), tt))
 

@@ -82,7 +82,7 @@ pub record Witness : Type 0 where
   pub taken : all_taken (after zero_tables first) whole ≡ true
   pub place-lost : dead (at lost) 1 ≡ true
   pub adopted : is_adopted (at ghosted) 2 ≡ 1
-  pub is_ghost_lem : ghost_byte (at ghosted) 1 0 ≡ 2
+  pub is_ghost : ghost_byte (at ghosted) 1 0 ≡ 2
   pub reply : byte (at replied) (place (slot_row 0) 0) ≡ 11
   pub reply_says : byte (at replied) (place (slot_row 0) 5) ≡ 1
   pub calm : quiet (at calmed) ≡ true

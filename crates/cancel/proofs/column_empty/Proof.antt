@@ -1,6 +1,6 @@
 use borrow.Author.Rules.{rules}
-use Rattle.cancel.proofs.column-empty.Statement.{statement}
-use Rattle.cancel.proofs.column-empty.Tie as tie
+use Rattle.cancel.proofs.column_empty.Statement.{statement}
+use Rattle.cancel.proofs.column_empty.Tie as tie
 
 returns : tie.Need-returns
 returns c = rw (c.book-column.ensures, c.before.wide2.ensures.0, c.before.before.wide.ensures.0)

@@ -33,16 +33,16 @@ module _ (s : State) (inv : Inv s) where
 
     one_up : (g y : ℕ) → y ≡ s.finishes.parent g → Link g → 0 < y → s.books.present y ≡ 0 → Passed y
     one_up g y e w z absent =
-        let b = inv.finish_made_lem g (omega (arith, w.low)) in
+        let b = inv.finish_made g (omega (arith, w.low)) in
         let big : 1 < g = eq_cases g 1 (λ q. absurd (omega (arith, inv.root.3, ap s.finishes.parent q))) (λ n. omega (arith, b.0)) in
         let o = s.finishes.opener g in
         let op = inv.opened g big b.1 in
         let bl = opener-blocked s inv g w.low w.high op.0 in
         let of : s.tasks.finish o ≡ y = sym op.2 ∙ sym e in
         let made = inv.status_made o (omega (arith, bl)) in
-        let is_main_lem : s.tasks.sent o ≡ 0 = not_sent o y of bl absent in
-        let k = inv.main_tasks o made.0 made.1 is_main_lem in
-        let r = busy_main s inv o is_main_lem (omega (arith, bl)) (omega (arith, bl)) in
+        let is_main : s.tasks.sent o ≡ 0 = not_sent o y of bl absent in
+        let k = inv.main_tasks o made.0 made.1 is_main in
+        let r = busy_main s inv o is_main (omega (arith, bl)) (omega (arith, bl)) in
         let main_y : s.finishes.main y ≡ o = ap s.finishes.main (sym of) ∙ k.2 in
         let act : s.finishes.status y ≡ 1 = eq_cases (s.finishes.status y) 2
         (λ q. absurd (opens_none s inv y q g w.low w.high op.0 main_y))

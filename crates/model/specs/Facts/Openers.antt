@@ -53,13 +53,13 @@ module _ {c : ℕ} (s : State) (inv : InvBut c s) (g : ℕ) (present : s.books.p
 module _ {c : ℕ} (s : State) (inv : InvBut c s) (g : ℕ) (present : s.books.present g ≡ 1) (pos : 0 < s.books.parent g)
     (lives : s.dead (s.finishes.home g) ≡ false) where
   pub held-parent : Held s inv g present lives (s.books.parent g) pos here
-  held-parent = held s inv g present lives (s.books.parent g) pos here (inv.book_above g present) (λ q. omega (arith, (inv.book_parent_lem g present).0))
+  held-parent = held s inv g present lives (s.books.parent g) pos here (inv.book_above g present) (λ q. omega (arith, (inv.book_parent g present).0))
 
   -- K6: q not 0 and h(f) alive → column h(f) of q's book is not all 0
   pub column_left : ((i : ℕ) → s.books.live (s.books.parent g) i (s.finishes.home g) ≡ 0) → ⊥
   column_left z =
       let x = held-parent in
-      no_busy s inv (s.books.parent g) ((inv.book_parent_lem g present).1 pos) (s.finishes.home g) lives z
+      no_busy s inv (s.books.parent g) ((inv.book_parent g present).1 pos) (s.finishes.home g) lives z
       x.task (omega (arith, x.status)) (omega (arith, x.status)) x.finish x.at
 
 -- a finish whose main task runs and that is unpublished stands between no book with a live home and its parent

@@ -32,7 +32,7 @@ module _ {c : ℕ} (s : State) (inv : InvBut c s) (g : ℕ) (publishing : s.fini
         inv.blocked o z,
         weigh-le true 6 6 (s.tasks.status o),
         on_true true 1 refl,
-        sum_ge (suc s.finishes.made) (λ f. weigh (eqb (s.finishes.opener f) o) 1 3 (s.finishes.status f)) f (omega (arith, inv.finish_made_lem f (omega arith))),
+        sum_ge (suc s.finishes.made) (λ f. weigh (eqb (s.finishes.opener f) o) 1 3 (s.finishes.status f)) f (omega (arith, inv.finish_made f (omega arith))),
         weigh_in (eqb o o) 1 3 (s.finishes.status f) l h,
         on_true (eqb o o) 1 (eq-eqb o o refl),
         sum_ge (suc s.tasks.made) (λ x. weigh (is₂ (s.tasks.sent x) (s.tasks.maker x) 1 o) 1 2 (s.tasks.status x)) t (omega (arith, inv.sent_made t (omega (arith, w.1)))),

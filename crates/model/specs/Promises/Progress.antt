@@ -47,7 +47,7 @@ module _ (s : State) (inv : Inv s) (quiet : Quiet s) (still : (t : ℕ) → s.ta
         held : (c : ℕ) → (eqb (s.finishes.opener c) t ≡ true) × (1 ≤ s.finishes.status c) × (s.finishes.status c ≤ 3) → ⊥
         held c w =
             let o = eqb-true (s.finishes.opener c) t w.0 in
-            let b = inv.finish_made_lem c (omega (arith, w.1)) in
+            let b = inv.finish_made c (omega (arith, w.1)) in
             let m = inv.status_made t (omega arith) in
             eq_cases c 1
             (λ q. omega (arith, inv.root.2, ap s.finishes.opener q))

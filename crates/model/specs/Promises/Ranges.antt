@@ -82,5 +82,5 @@ module _ (s : State) (inv : Inv s) where
         let this = tallied_ge s k 6 (λ m. is₃ m.finish m.from m.to f i j) (λ m. 1) full.range full.tag (is₃_same f i j) in
         let key : ℕ → Bool = λ x. is₃ (s.tasks.sent x) (s.tasks.finish x) (s.tasks.at x) 1 f j in (
           omega (arith, sent_few (omega (arith, full.tag)) (omega (arith, full.tag)) full.range, inv.sent_most f i j present wire.1, this),
-          omega (arith, inv.local_live_lem f j, tasks_fewer key 5 6 (omega arith) t n.0 n.1 (weigh_out (key t) 5 6 (s.tasks.status t) (λ l _. omega (arith, wire.0)))),
+          omega (arith, inv.local_live f j, tasks_fewer key 5 6 (omega arith) t n.0 n.1 (weigh_out (key t) 5 6 (s.tasks.status t) (λ l _. omega (arith, wire.0)))),
         )

@@ -13,7 +13,7 @@ module _ (s : State) (inv : Inv s) where
   Clear g = g ≤ s.finishes.made → 0 < g → Open s g → (f : ℕ) → Under s.finishes.parent f g → s.finishes.status f ≡ 4 → ⊥
 
   no_zero : (f : ℕ) → f ≡ 0 → s.finishes.status f ≡ 4 → ⊥
-  no_zero f e r = omega (arith, inv.finish_made_lem f (omega arith))
+  no_zero f e r = omega (arith, inv.finish_made f (omega arith))
 
   module _ (g : ℕ) (ih : (h : ℕ) → h < g → Clear h) (m : g ≤ s.finishes.made) where
     -- its home lives: the opener is a busy task of the parent
@@ -30,10 +30,10 @@ module _ (s : State) (inv : Inv s) where
     died p d f u r = go (in_line u (inv.book_above g p))
       where
         present : s.books.present (s.books.parent g) ≡ 1
-        present = (inv.book_parent_lem g p).1 (inv.orphans g p d).0
+        present = (inv.book_parent g p).1 (inv.orphans g p d).0
 
         go : Under s.finishes.parent f (s.books.parent g) ⊎ Under s.finishes.parent (s.books.parent g) f → ⊥
-        go (inl v) = ih (s.books.parent g) (inv.book_parent_lem g p).0 (omega (arith, m, (inv.book_parent_lem g p).0)) (inv.orphans g p d).0 (inr present) f v r
+        go (inl v) = ih (s.books.parent g) (inv.book_parent g p).0 (omega (arith, m, (inv.book_parent g p).0)) (inv.orphans g p d).0 (inr present) f v r
         go (inr v) = eq_cases f (s.books.parent g)
             (λ e. inv.book_unreleased (s.books.parent g) present (rw e at r))
             (λ n. eq_cases f g (λ e. inv.book_unreleased g p (rw e at r)) (λ k. omega (arith, (inv.skipped g f p u v n k).4 d)))

@@ -5,7 +5,7 @@ use Rattle.model.specs.Base.{upd, upd_other}
 use Rattle.model.specs.State.{State, Finishes}
 use Rattle.model.specs.Effects.Kill.{loses_finish}
 use Rattle.model.specs.Effects.Closing.{Closing, stays, ends_ghost, releases, vanishes}
-use Rattle.model.specs.Step.{Spawn, spawns_first, spawns_later, End, ends_unpublished, ends_published, ends_other, ends_last, kills, Settle, adopts, cancels, asks, discards, delivers_publish, delivers_published, delivers_transit, refuses_transit, delivers_granted, loses_granted, delivers_denied, delivers_task, refuses_task, delivers_report, delivers_release, delivers_ghost_ended, delivers_count_dropped, delivers_dropped, Move, spawns, opens, ends, loses, settles}
+use Rattle.model.specs.Step.{Spawn, spawns_first, spawns_later, End, ends_unpublished, ends_published, ends_other, ends_last, Kill, kills, Settle, adopts, cancels, asks, discards, delivers_publish, delivers_published, delivers_transit, refuses_transit, delivers_granted, loses_granted, delivers_denied, delivers_task, refuses_task, delivers_report, delivers_release, delivers_ghost_ended, delivers_count_dropped, delivers_dropped, Move, spawns, opens, ends, loses, settles}
 use Rattle.model.specs.Inv.{Inv}
 
 -- the closing test leaves the finishes
@@ -61,9 +61,12 @@ settle_stays f inv (delivers_ghost_ended k a b c d) r = closed f d r
 settle_stays f inv (delivers_count_dropped k a b c) r = r
 settle_stays f inv (delivers_dropped k a b c d e) r = closed f e r
 
+kill_stays : {s : State} {p : ℕ} {s' : State} (f : ℕ) → Inv s → Kill s p s' → s.finishes.status f ≡ 4 → s'.finishes.status f ≡ 4
+kill_stays {s} {p = p} f inv (kills a b c) r = spared p (s.finishes.home f) (s.finishes.status f) r
+
 pub released_stays : {s s' : State} (f : ℕ) → Inv s → Move s s' → s.finishes.status f ≡ 4 → s'.finishes.status f ≡ 4
 released_stays f inv (spawns t p m) r = spawn_stays f inv m r
-released_stays {s} f inv (opens t a) r = elsewhere s.finishes.status (suc s.finishes.made) 1 f (λ q. omega (arith, inv.finish_made_lem (suc s.finishes.made) (omega arith))) r
+released_stays {s} f inv (opens t a) r = elsewhere s.finishes.status (suc s.finishes.made) 1 f (λ q. omega (arith, inv.finish_made (suc s.finishes.made) (omega arith))) r
 released_stays f inv (ends t m) r = end_stays f inv m r
-released_stays {s} f inv (loses p (kills a b c)) r = spared p (s.finishes.home f) (s.finishes.status f) r
+released_stays f inv (loses p m) r = kill_stays f inv m r
 released_stays f inv (settles m) r = settle_stays f inv m r

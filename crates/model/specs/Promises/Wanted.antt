@@ -15,14 +15,14 @@ module _ (s : State) (inv : Inv s) where
   main_wanted t runs e =
       let f = s.tasks.finish t in
       let b = busy_main s inv t e (omega (arith, runs.running)) (omega (arith, runs.running)) in
-      let is_main_lem = (inv.main_tasks t runs.low runs.high e).2 in
+      let is_main = (inv.main_tasks t runs.low runs.high e).2 in
       eq_cases (s.finishes.status f) 2
-      (λ q. absurd (omega (arith, rw is_main_lem at (inv.publishing f q).2, runs.running)))
+      (λ q. absurd (omega (arith, rw is_main at (inv.publishing f q).2, runs.running)))
       (λ n. omega (arith, b.1, b.2))
 
   -- end of a main task: its opener, if any, is blocked
-  pub end_wanted_lem : (t : ℕ) → Runs s t → s.tasks.sent t ≡ 0 → MayRun s (s.finishes.opener (s.tasks.finish t))
-  end_wanted_lem t runs e = let a = main_wanted t runs e in opener-blocked s inv (s.tasks.finish t) (omega arith) (omega arith)
+  pub end_wanted : (t : ℕ) → Runs s t → s.tasks.sent t ≡ 0 → MayRun s (s.finishes.opener (s.tasks.finish t))
+  end_wanted t runs e = let a = main_wanted t runs e in opener-blocked s inv (s.tasks.finish t) (omega arith) (omega arith)
 
   -- end of another task: its local live count is above 0, and no more is reported than was received
   pub end_counts : (t : ℕ) → Runs s t → (s.tasks.sent t ≡ 0 → ⊥)

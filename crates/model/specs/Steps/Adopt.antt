@@ -59,7 +59,7 @@ module _ (s : State) (f : ℕ) (inv : Inv s) (book : HasBook s f) where
       (λ b.
       let x : q ≡ f = eqb-true q f (and_left (eqb q f) (is_orphan s f g) b) in
       let r = is g (and_right (eqb q f) (is_orphan s f g) b) in
-      (omega (arith, (inv.book_parent_lem g r.0).0, r.2), (inv.book_made g r.0).1, ap s.books.present x ∙ book.present))
+      (omega (arith, (inv.book_parent g r.0).0, r.2), (inv.book_made g r.0).1, ap s.books.present x ∙ book.present))
 
   due_mark : B.DueMark s'
   due_mark g = upd-cases s.books.due (λ w. w ≤ 1) f 0 g (λ _. omega arith) (λ _. inv.due_mark g)

@@ -28,13 +28,13 @@ module _ (s : State) (f v j k : ℕ) (inv : Inv s) (book : HasBook s f) (v-place
   other_tag t z n = ((λ q. omega (arith, free.tag)), (λ q. n (sym q)))
 
   -- an unpublished finish has a count in the home's own cell alone
-  is_published_lem : s.finishes.published f ≡ 1
-  is_published_lem = eq_cases (s.finishes.published f) 0
+  is_published : s.finishes.published f ≡ 1
+  is_published = eq_cases (s.finishes.published f) 0
       (λ e.
       let h = s.finishes.home f in
       on-cases (is₂ h h v j) 1 (omega (arith, (inv.fresh_book f v j e book.present).1)) (λ t _.
       let q = is₂_true h h v j t in both died (ap s.dead (sym q.0 ∙ q.1) ∙ lives)))
-      (λ n. omega (arith, inv.published_mark_lem f))
+      (λ n. omega (arith, inv.published_mark f))
 
   asks : M.Asks s'
   asks = W.each s₁ k m₀ free.range (M.AsksOf s₁)
@@ -49,7 +49,7 @@ module _ (s : State) (f v j k : ℕ) (inv : Inv s) (book : HasBook s f) (v-place
   fresh_book : M.FreshBook s'
   fresh_book g x y e p =
       let r = inv.fresh_book g x y e p in
-      (r.0, r.1, or-false (s.books.asked g x y) (is₃ f v j g x y) r.2 (is₃_false f v j g x y (λ q _ _. omega (arith, is_published_lem, ap s.finishes.published q))))
+      (r.0, r.1, or-false (s.books.asked g x y) (is₃ f v j g x y) r.2 (is₃_false f v j g x y (λ q _ _. omega (arith, is_published, ap s.finishes.published q))))
 
   marked : C.Marked s'
   marked g x y p a = omega (
@@ -84,5 +84,5 @@ module _ (s : State) (f v j k : ℕ) (inv : Inv s) (book : HasBook s f) (v-place
     W.release-none s₁ k m₀ free.range (other_tag 8 (omega arith) (λ q. omega arith)) inv.release-none,
     W.ghosts s₁ k m₀ free.range (other_tag 9 (omega arith) (λ q. omega arith)) inv.ghosts,
     W.each s₁ k m₀ free.range (M.GhostEndsOf s₁) inv.ghost_ends (λ e. absurd (omega arith)),
-    W.each s₁ k m₀ free.range (M.FreshMessagesOf s₁) inv.fresh_messages (λ _ _. is_published_lem),
+    W.each s₁ k m₀ free.range (M.FreshMessagesOf s₁) inv.fresh_messages (λ _ _. is_published),
   )

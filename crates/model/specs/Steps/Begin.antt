@@ -29,8 +29,8 @@ module _ (n m : ℕ) (two : 2 ≤ n) where
     sum_zero 2 (λ f. weigh (eqb 0 b) 1 3 (upd (λ f. 0) 1 1 f)) (λ f _. weigh_off (eqb 0 b) 1 3 (upd (λ f. 0) 1 1 f) (ne_eqb 0 b (λ e. omega arith))),
   )
 
-  local_live_lem : LocalLive (begun n m)
-  local_live_lem f j = omega (
+  local_live : LocalLive (begun n m)
+  local_live f j = omega (
     arith,
     sum_zero 2 (λ t. weigh (is₃ 0 (upd (λ t. 0) 1 1 t) 0 1 f j) 5 6 (upd (λ t. 0) 1 5 t))
         (λ t _. weigh_off (is₃ 0 (upd (λ t. 0) 1 1 t) 0 1 f j) 5 6 (upd (λ t. 0) 1 5 t) (is₃_false 0 (upd (λ t. 0) 1 1 t) 0 1 f j (λ e _ _. omega arith))),
@@ -59,8 +59,8 @@ module _ (n m : ℕ) (two : 2 ≤ n) where
     opened = λ f a b. absurd (omega arith);
     mains = λ f a b. omega (arith, row_is 1 (upd (λ f. 0) 1 1 f) (row_is 1 f (omega arith)));
     finish_statuses = λ f a b. omega (arith, row_is 1 f (omega arith));
-    published_mark_lem = λ f. omega arith;
-    finish_made_lem = λ f h. omega (arith, row_one 1 f h);
+    published_mark = λ f. omega arith;
+    finish_made = λ f h. omega (arith, row_one 1 f h);
     published_made = λ f h. absurd (omega arith);
     blank_finishes = λ f _. (refl, refl);
     active = λ f e. (refl, omega (arith, row_is 5 (upd (λ f. 0) 1 1 f) (row_is 1 f (row_one 1 f (omega arith)))), omega (arith, row_most 5 (upd (λ f. 0) 1 1 f)));
@@ -111,7 +111,7 @@ module _ (n m : ℕ) (two : 2 ≤ n) where
     active_book = λ f _. refl;
     book_counts = λ f _ p. absurd (omega arith);
     due_column = λ f p. absurd (omega arith);
-    book_parent_lem = λ f p. absurd (omega arith);
+    book_parent = λ f p. absurd (omega arith);
     adopted_dead = λ f p. absurd (omega arith);
     orphans = λ f p. absurd (omega arith);
     book_above = λ f p. absurd (omega arith);
@@ -127,7 +127,7 @@ module _ (n m : ℕ) (two : 2 ≤ n) where
     not_from_self = λ f j. refl;
     sent_book = λ f i j h. absurd (omega arith);
     sent_tasks_most = λ f i j _. omega (arith, none_of 3 (λ m. is₃ m.finish m.from m.to f i j) (λ m. 1) (omega arith));
-    local_live_lem = local_live_lem;
+    local_live = local_live;
     reported_most = λ f j i. omega arith;
     pending = λ f j h. absurd (omega arith);
     unreported = λ f j i h. absurd (omega arith);

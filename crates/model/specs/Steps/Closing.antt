@@ -151,7 +151,7 @@ module _ (s : State) (f : ℕ) (inv : InvBut f s) (present : s.books.present f �
 
       ends_ghost_keeps : Inv (with_slot (upd s.slot k (ghost_ended q₀ f)) (without_book f s))
       ends_ghost_keeps = sends_keeps k in-range free (ghost_ended q₀ f) (omega arith) (omega arith)
-          (omega (arith, (inv.orphans f present dead-home).0, (inv.book_parent_lem f present).0, inv.book_made f present)) (refl, refl) (λ n. absurd (n refl))
+          (omega (arith, (inv.orphans f present dead-home).0, (inv.book_parent f present).0, inv.book_made f present)) (refl, refl) (λ n. absurd (n refl))
           (λ _. (dead-home, upd_same s.books.present f 0))
           (λ q g. eq_cases g f
           (λ e. omega (arith, adds (ghost_ended q₀ f) 9 (λ m. is₂ m.finish m.number q g) (omega arith) refl, inv.ghosts q g, ghost_bit q g, child_gone q g e, child q g e))

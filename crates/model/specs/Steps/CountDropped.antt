@@ -37,8 +37,8 @@ module _ (s : State) (k : ℕ) (inv : Inv s) (full : Full s k 10) where
   other_tag : (t : ℕ) → 0 < t → (t ≡ 10 → ⊥) → (t ≡ 11 → ⊥) → W.Elsewhere s₁ k m₀ full.range t
   other_tag t z n m = ((λ q. n (sym q ∙ full.tag)), (λ q. m (sym q)))
 
-  is_published_lem : s.finishes.published f₀ ≡ 1
-  is_published_lem = inv.fresh_messages k full.range (omega (arith, full.tag)) (λ q. omega (arith, full.tag))
+  is_published : s.finishes.published f₀ ≡ 1
+  is_published = inv.fresh_messages k full.range (omega (arith, full.tag)) (λ q. omega (arith, full.tag))
 
   sender_dead : s.dead v₀ ≡ true
   sender_dead = (inv.asks k full.range (omega (arith, full.tag))).0
@@ -77,7 +77,7 @@ module _ (s : State) (k : ℕ) (inv : Inv s) (full : Full s k 10) where
   fresh_locals : M.FreshLocals s'
   fresh_locals f j i e =
       let r = inv.fresh_locals f j i e in
-      (r.0, r.1, r.2, or-false (s.locals.denied f j i) (is₃ f₀ v₀ j₀ f i j) r.3 (is₃_false f₀ v₀ j₀ f i j (λ q _ _. omega (arith, is_published_lem, ap s.finishes.published q))))
+      (r.0, r.1, r.2, or-false (s.locals.denied f j i) (is₃ f₀ v₀ j₀ f i j) r.3 (is₃_false f₀ v₀ j₀ f i j (λ q _ _. omega (arith, is_published, ap s.finishes.published q))))
 
   denied-dead : L.DeniedDead s'
   denied-dead f j i e = or_cases (s.locals.denied f j i) (is₃ f₀ v₀ j₀ f i j) e (inv.denied-dead f j i) (λ t. ap s.dead (sym (is₃_true f₀ v₀ j₀ f i j t).1) ∙ sender_dead)
@@ -163,7 +163,7 @@ module _ (s : State) (k : ℕ) (inv : Inv s) (full : Full s k 10) where
     W.ghosts s₁ k m₀ full.range (other_tag 9 (omega arith) (λ q. omega arith) (λ q. omega arith)) inv.ghosts,
     W.each s₁ k m₀ full.range (M.GhostEndsOf s₁) inv.ghost_ends (λ e. absurd (omega arith)),
     W.each s₁ k m₀ full.range (M.AsksOf s₁) inv.asks (λ _. inv.asks k full.range (omega (arith, full.tag))),
-    W.each s₁ k m₀ full.range (M.FreshMessagesOf s₁) inv.fresh_messages (λ _ _. is_published_lem),
+    W.each s₁ k m₀ full.range (M.FreshMessagesOf s₁) inv.fresh_messages (λ _ _. is_published),
     W.sent_from s₁ k m₀ full.range (other_tag 4 (omega arith) (λ q. omega arith) (λ q. omega arith)) (other_tag 6 (omega arith) (λ q. omega arith) (λ q. omega arith)) inv.sent_from,
     W.sent_most s₁ k m₀ full.range (other_tag 6 (omega arith) (λ q. omega arith) (λ q. omega arith)) inv.sent_most,
     W.sent_tasks_most s₁ k m₀ full.range (other_tag 3 (omega arith) (λ q. omega arith) (λ q. omega arith)) inv.sent_tasks_most,

@@ -10,7 +10,7 @@ use Rattle.model.specs.Steps.Written as W
 use Rattle.model.specs.Steps.SettledTask.{settled_keeps}
 
 module _ (s : State) (k : ℕ) (inv : Inv s) (full : Full s k 5) (from_lives : s.dead (s.slot k).from ≡ false)
-    (waits : s.tasks.status (s.slot k).task ≡ 2) (may_run_lem : MayRun s (s.tasks.maker (s.slot k).task)) where
+    (waits : s.tasks.status (s.slot k).task ≡ 2) (may_run : MayRun s (s.tasks.maker (s.slot k).task)) where
   other_tag : (x : ℕ) → 0 < x → (x ≡ 5 → ⊥) → W.Elsewhere s k none full.range x
   other_tag x z n = ((λ q. n (omega (arith, full.tag))), (λ q. omega arith))
 

@@ -41,16 +41,16 @@ module _ (s : State) (t k : ℕ) (inv : Inv s) (runs : Runs s t) (other : s.task
   tasks : NoTask s'
   tasks = let e = ends in no_task s₁ k m₀ free.range free.tag (omega arith) (search e)
 
-  finish_made_lem : (0 < f₀) × (f₀ ≤ s.finishes.made)
-  finish_made_lem = omega (arith, inv.task_ranges t runs.low runs.high)
+  finish_made : (0 < f₀) × (f₀ ≤ s.finishes.made)
+  finish_made = omega (arith, inv.task_ranges t runs.low runs.high)
 
-  is_published_lem : s.finishes.published f₀ ≡ 1
-  is_published_lem = eq_cases (s.finishes.published f₀) 0
+  is_published : s.finishes.published f₀ ≡ 1
+  is_published = eq_cases (s.finishes.published f₀) 0
       (λ e. absurd (omega (arith, (inv.fresh_locals f₀ j₀ 0 e).2)))
-      (λ n. omega (arith, inv.published_mark_lem f₀))
+      (λ n. omega (arith, inv.published_mark f₀))
 
   names_finish : M.NamesFinish s'
-  names_finish = W.each s₁ k m₀ free.range (M.NamesFinishOf s₁) inv.names_finish (λ _. finish_made_lem)
+  names_finish = W.each s₁ k m₀ free.range (M.NamesFinishOf s₁) inv.names_finish (λ _. finish_made)
 
   names-places : M.NamesPlaces s'
   names-places = W.each s₁ k m₀ free.range (M.NamesPlacesOf s₁) inv.names-places (λ _. ((inv.task_ranges t runs.low runs.high).1, omega (arith, inv.places)))
@@ -63,7 +63,7 @@ module _ (s : State) (t k : ℕ) (inv : Inv s) (runs : Runs s t) (other : s.task
   report_book = W.each s₁ k m₀ free.range (M.ReportBookOf s₁) inv.report_book (λ _ _. inv.local_book f₀ j₀ (omega arith))
 
   fresh_messages : M.FreshMessages s'
-  fresh_messages = W.each s₁ k m₀ free.range (M.FreshMessagesOf s₁) inv.fresh_messages (λ _ _. is_published_lem)
+  fresh_messages = W.each s₁ k m₀ free.range (M.FreshMessagesOf s₁) inv.fresh_messages (λ _ _. is_published)
 
   -- what is reported rises by what the report says, and so do the reports in flight
   rise : ℕ → ℕ → ℕ → ℕ

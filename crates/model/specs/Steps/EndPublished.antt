@@ -26,7 +26,7 @@ own_cell f h i j = rw (eq-eqb f f refl) (go (eqb h i) (eqb h j))
     go false true = refl
     go false false = refl
 
-module _ (s : State) (t k : ℕ) (inv : Inv s) (runs : Runs s t) (is_main_lem : s.tasks.sent t ≡ 0) (not-fresh : s.finishes.published (s.tasks.finish t) ≡ 0 → ⊥)
+module _ (s : State) (t k : ℕ) (inv : Inv s) (runs : Runs s t) (is_main : s.tasks.sent t ≡ 0) (not-fresh : s.finishes.published (s.tasks.finish t) ≡ 0 → ⊥)
     (is-active : s.finishes.status (s.tasks.finish t) ≡ 1) (free : Free s k) where
   -- the finish, its home, the report
   abbrev f₀ : ℕ
@@ -46,20 +46,20 @@ module _ (s : State) (t k : ℕ) (inv : Inv s) (runs : Runs s t) (is_main_lem : 
   s₁ = with_finish_status (upd s.finishes.status f₀ 3) (with_task_status (upd s.tasks.status t 7) s)
 
   made : (0 < f₀) × (f₀ ≤ s.finishes.made)
-  made = inv.finish_made_lem f₀ (omega arith)
+  made = inv.finish_made f₀ (omega arith)
 
-  is_published_lem : s.finishes.published f₀ ≡ 1
-  is_published_lem = eq_cases (s.finishes.published f₀) 0 (λ e. absurd (not-fresh e)) (λ n. omega (arith, inv.published_mark_lem f₀))
+  is_published : s.finishes.published f₀ ≡ 1
+  is_published = eq_cases (s.finishes.published f₀) 0 (λ e. absurd (not-fresh e)) (λ n. omega (arith, inv.published_mark f₀))
 
   by_row : Rows s t 0 s₁.tasks.status
   by_row P x a b c = upd-cases s.tasks.status P t 7 x a (λ n. c n (λ z _. omega arith))
 
   main_is : s.finishes.main f₀ ≡ t
-  main_is = (inv.main_tasks t runs.low runs.high is_main_lem).2
+  main_is = (inv.main_tasks t runs.low runs.high is_main).2
 
   ends : FinishTurned s₁
   ends = turns s f₀ 1 3 0 s₁.tasks.status inv is-active (omega arith) (λ q. omega arith) (omega arith) (omega arith) (omega arith)
-      (λ _. rw main_is runs.running) (λ _. (is_published_lem, refl)) (λ e. absurd (omega arith)) (rw main_is by_row)
+      (λ _. rw main_is runs.running) (λ _. (is_published, refl)) (λ e. absurd (omega arith)) (rw main_is by_row)
 
   -- no release of an active finish is on its way
   no_release : (g : ℕ) → g ≡ f₀ → of_finish s 8 g ≡ 0
@@ -67,7 +67,7 @@ module _ (s : State) (t k : ℕ) (inv : Inv s) (runs : Runs s t) (is_main_lem : 
 
   release_some : M.ReleaseSome s₁
   release_some g = upd-cases s.finishes.status (λ w. w ≡ 3 → of_finish s 8 g + s.books.present g ≡ 1) f₀ 3 g
-      (λ q _. omega (arith, no_release g q, inv.active_book f₀ is-active, is_published_lem, ap s.books.present q))
+      (λ q _. omega (arith, no_release g q, inv.active_book f₀ is-active, is_published, ap s.books.present q))
       (λ _. inv.release_some g)
 
   release-none : M.ReleaseNone s₁
@@ -92,10 +92,10 @@ module _ (s : State) (t k : ℕ) (inv : Inv s) (runs : Runs s t) (is_main_lem : 
   report-counts = W.each s₁ k m₀ free.range (M.ReportCountsOf s₁) inv.report-counts (λ _. (h₀, omega (arith, on_true (eqb h₀ h₀) 1 (eq-eqb h₀ h₀ refl))))
 
   report_book : M.ReportBook s'
-  report_book = W.each s₁ k m₀ free.range (M.ReportBookOf s₁) inv.report_book (λ _ _. inv.active_book f₀ is-active ∙ is_published_lem)
+  report_book = W.each s₁ k m₀ free.range (M.ReportBookOf s₁) inv.report_book (λ _ _. inv.active_book f₀ is-active ∙ is_published)
 
   fresh_messages : M.FreshMessages s'
-  fresh_messages = W.each s₁ k m₀ free.range (M.FreshMessagesOf s₁) inv.fresh_messages (λ _ _. is_published_lem)
+  fresh_messages = W.each s₁ k m₀ free.range (M.FreshMessagesOf s₁) inv.fresh_messages (λ _ _. is_published)
 
   -- what the report says
   says : ℕ → ℕ → ℕ → ℕ

@@ -11,8 +11,8 @@ use Rattle.model.specs.Inv.Messages as M
 use Rattle.model.specs.Inv.Cells.{Counted, CountedDenied}
 use Rattle.model.specs.Steps.FinishTurned.{FinishTurned, Rows, turns}
 
-module _ (s : State) (t : ℕ) (inv : Inv s) (runs : Runs s t) (is_main_lem : s.tasks.sent t ≡ 0) (unpublished : s.finishes.published (s.tasks.finish t) ≡ 0)
-    (is-active : s.finishes.status (s.tasks.finish t) ≡ 1) (may_run_lem : MayRun s (s.finishes.opener (s.tasks.finish t))) where
+module _ (s : State) (t : ℕ) (inv : Inv s) (runs : Runs s t) (is_main : s.tasks.sent t ≡ 0) (unpublished : s.finishes.published (s.tasks.finish t) ≡ 0)
+    (is-active : s.finishes.status (s.tasks.finish t) ≡ 1) (may_run : MayRun s (s.finishes.opener (s.tasks.finish t))) where
   -- the finish, its opener
   abbrev f₀ : ℕ
   f₀ = s.tasks.finish t
@@ -27,11 +27,11 @@ module _ (s : State) (t : ℕ) (inv : Inv s) (runs : Runs s t) (is_main_lem : s.
   by_row P x a b c = eq_cases o 0
       (λ e. rw (wake-none o (upd s.tasks.status t 7) x e) (upd-cases s.tasks.status P t 7 x a (λ n. c n (λ z _. omega arith))))
       (λ ne. rw (wake_some o (upd s.tasks.status t 7) x (omega arith)) (upd-cases (upd s.tasks.status t 7) P o 5 x
-      (λ q. b (omega arith) q (ap s.tasks.status q ∙ may_run_lem (omega arith)))
+      (λ q. b (omega arith) q (ap s.tasks.status q ∙ may_run (omega arith)))
       (λ n₁. upd-cases s.tasks.status P t 7 x a (λ n₂. c n₂ (λ _. n₁)))))
 
   main_is : s.finishes.main f₀ ≡ t
-  main_is = (inv.main_tasks t runs.low runs.high is_main_lem).2
+  main_is = (inv.main_tasks t runs.low runs.high is_main).2
 
   no_book : s.books.present f₀ ≡ 0
   no_book = inv.active_book f₀ is-active ∙ unpublished

@@ -20,7 +20,7 @@ pub record FinishTurned (s : State) : Type 0 where
   pub main_statuses : R.MainStatuses s
   pub status_made : R.StatusMade s
   pub finish_statuses : R.FinishStatuses s
-  pub finish_made_lem : R.FinishMade s
+  pub finish_made : R.FinishMade s
   pub active : T.Active s
   pub publishing : T.Publishing s
   pub waiting : T.Waiting s
@@ -45,7 +45,7 @@ pub record FinishTurned (s : State) : Type 0 where
   pub active_book : B.ActiveBook s
   pub skipped : B.Skipped s
   pub sent_tasks_most : C.SentTasksMost s
-  pub local_live_lem : L.LocalLive s
+  pub local_live : L.LocalLive s
 
 -- t has ended, the blocked task o (0 is none) runs, and every other task is as it was
 abbrev pub Rows : State → ℕ → ℕ → (ℕ → ℕ) → Type 1
@@ -63,7 +63,7 @@ module _ (s : State) (f₀ u v o : ℕ) (status : ℕ → ℕ) (inv : Inv s) (wa
   s' = with_finish_status (upd s.finishes.status f₀ v) (with_task_status status s)
 
   made : (0 < f₀) × (f₀ ≤ s.finishes.made)
-  made = inv.finish_made_lem f₀ (omega arith)
+  made = inv.finish_made f₀ (omega arith)
 
   home_lives : s.dead (s.finishes.home f₀) ≡ false
   home_lives = eq_cases u 1 (λ e. (inv.active f₀ (was-u ∙ e)).0) (λ n. (inv.waiting f₀ (omega arith)).0)
@@ -77,15 +77,15 @@ module _ (s : State) (f₀ u v o : ℕ) (status : ℕ → ℕ) (inv : Inv s) (wa
   t_made : (0 < t) × (t ≤ s.tasks.made)
   t_made = inv.status_made t (omega (arith, t_was.0))
 
-  is_main_lem : s.tasks.sent t ≡ 0
-  is_main_lem = (inv.mains f₀ made.0 made.1).1
+  is_main : s.tasks.sent t ≡ 0
+  is_main = (inv.mains f₀ made.0 made.1).1
 
   opener : 0 < o → (v ≡ 4) × (o ≡ s.finishes.opener f₀)
   opener z = eq_cases v 3 (λ e. absurd (omega (arith, (waits e).1))) (λ n. let e : v ≡ 4 = omega arith in (e, (wakes e).1))
 
   -- the main task of another finish is another
   main_other : (g : ℕ) → 0 < s.finishes.status g → (g ≡ f₀ → ⊥) → s.finishes.main g ≡ t → ⊥
-  main_other g h n q = let b = inv.finish_made_lem g h in n (sym (inv.mains g b.0 b.1).0 ∙ ap s.tasks.finish q ∙ (inv.mains f₀ made.0 made.1).0)
+  main_other g h n q = let b = inv.finish_made g h in n (sym (inv.mains g b.0 b.1).0 ∙ ap s.tasks.finish q ∙ (inv.mains f₀ made.0 made.1).0)
 
   by_finish : (P : ℕ → Type 0) (g : ℕ) → (g ≡ f₀ → P v) → ((g ≡ f₀ → ⊥) → P (s.finishes.status g)) → P (s'.finishes.status g)
   by_finish P g a b = upd-cases s.finishes.status P f₀ v g a b
@@ -124,8 +124,8 @@ module _ (s : State) (f₀ u v o : ℕ) (status : ℕ → ℕ) (inv : Inv s) (wa
   finish_statuses : R.FinishStatuses s'
   finish_statuses g z l = by_finish (λ w. (0 < w) × (w ≤ 5)) g (λ _. omega arith) (λ _. inv.finish_statuses g z l)
 
-  finish_made_lem : R.FinishMade s'
-  finish_made_lem g = by_finish (λ w. 0 < w → (0 < g) × (g ≤ s.finishes.made)) g (λ q _. omega (arith, made)) (λ _. inv.finish_made_lem g)
+  finish_made : R.FinishMade s'
+  finish_made g = by_finish (λ w. 0 < w → (0 < g) × (g ≤ s.finishes.made)) g (λ q _. omega (arith, made)) (λ _. inv.finish_made g)
 
   active : T.Active s'
   active g e =
@@ -302,13 +302,13 @@ module _ (s : State) (f₀ u v o : ℕ) (status : ℕ → ℕ) (inv : Inv s) (wa
       omega (arith, inv.sent_tasks_most f i j ne, same_sum key 2 8 (all t 7 (omega arith) (omega arith) ∙ sym (all t (s.tasks.status t) (omega (arith, t_was.0)) (omega (arith, t_was.1)))) (λ x. sym (all x 6 (omega arith) (omega arith))))
 
   -- a main task is not counted
-  local_live_lem : L.LocalLive s'
-  local_live_lem f j =
+  local_live : L.LocalLive s'
+  local_live f j =
       let key : ℕ → Bool = λ x. is₃ (s.tasks.sent x) (s.tasks.finish x) (s.tasks.at x) 1 f j in
-      let off : key t ≡ false = is₃_false (s.tasks.sent t) (s.tasks.finish t) (s.tasks.at t) 1 f j (λ e _ _. omega (arith, is_main_lem)) in
+      let off : key t ≡ false = is₃_false (s.tasks.sent t) (s.tasks.finish t) (s.tasks.at t) 1 f j (λ e _ _. omega (arith, is_main)) in
       omega (
         arith,
-        inv.local_live_lem f j,
+        inv.local_live f j,
         same_sum key 5 6 (weigh_off (key t) 5 6 7 off ∙ sym (weigh_off (key t) 5 6 (s.tasks.status t) off))
             (λ x. weigh_in (key x) 5 6 5 (omega arith) (omega arith) ∙ sym (weigh_in (key x) 5 6 6 (omega arith) (omega arith))),
       )
@@ -319,7 +319,7 @@ module _ (s : State) (f₀ u v o : ℕ) (status : ℕ → ℕ) (inv : Inv s) (wa
     main_statuses,
     status_made,
     finish_statuses,
-    finish_made_lem,
+    finish_made,
     active,
     publishing,
     waiting,
@@ -344,5 +344,5 @@ module _ (s : State) (f₀ u v o : ℕ) (status : ℕ → ℕ) (inv : Inv s) (wa
     active_book,
     skipped,
     sent_tasks_most,
-    local_live_lem,
+    local_live,
   )

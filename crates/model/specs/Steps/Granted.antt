@@ -14,7 +14,7 @@ use Rattle.model.specs.Steps.Written as W
 use Rattle.model.specs.Steps.SettledTask.{settled_keeps}
 
 module _ (s : State) (k : ℕ) (inv : Inv s) (full : Full s k 4) (from_lives : s.dead (s.slot k).from ≡ false)
-    (waits : s.tasks.status (s.slot k).task ≡ 2) (may_run_lem : MayRun s (s.tasks.maker (s.slot k).task)) where
+    (waits : s.tasks.status (s.slot k).task ≡ 2) (may_run : MayRun s (s.tasks.maker (s.slot k).task)) where
   abbrev m₀ : Message
   m₀ = s.slot k
 

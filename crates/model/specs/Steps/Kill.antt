@@ -63,7 +63,7 @@ module _ {s : State} {p : ℕ} (inv : Inv s) (place : Lives s p) where
       (λ n. absurd (omega (arith, ap (s.books.live r i) q, sum_ge s.places column i (inv.cell-places r i (s.finishes.home g) (omega arith)).0))))))
       (λ n. omega arith) in
       let c = sum_some s.places column some in
-      (z, D.due_column s.places (s.books.present r) (s.books.live r) (s.books.due r) p ((inv.book_parent_lem g b).1 z) c.0 c.1 c.2)
+      (z, D.due_column s.places (s.books.present r) (s.books.live r) (s.books.due r) p ((inv.book_parent g b).1 z) c.0 c.1 c.2)
 
   orphans : B.Orphans s'
   orphans g b d = eq_cases (s.finishes.home g) p
@@ -213,4 +213,4 @@ module _ {s : State} {p : ℕ} (inv : Inv s) (place : Lives s p) where
   )
 
 pub kills_keeps : (s : State) (p : ℕ) → Inv s → 0 < p → p < s.places → s.dead p ≡ false → Inv (kill s p)
-kills_keeps s p inv above in_session_lem alive = killed inv (record { above = above; in_session_lem = in_session_lem; alive = alive })
+kills_keeps s p inv above in_session alive = killed inv (record { above = above; in_session = in_session; alive = alive })

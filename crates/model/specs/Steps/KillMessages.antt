@@ -111,7 +111,7 @@ module _ {s : State} {p : ℕ} (inv : Inv s) (place : Lives s p) where
 
   -- the task that waits for publish is from its finish's home
   first_home : (t f : ℕ) → s.tasks.sent t ≡ 1 → s.tasks.finish t ≡ f → s.finishes.status f ≡ 2 → s.tasks.from t ≡ s.finishes.home f
-  first_home t f e q w = rw q at (K.first_from_lem inv place t e (rw q (inv.publishing f w).1) (λ x. omega (arith, w, ap s.finishes.status q)))
+  first_home t f e q w = rw q at (K.first_from inv place t e (rw q (inv.publishing f w).1) (λ x. omega (arith, w, ap s.finishes.status q)))
 
   first_kept : (t f : ℕ) → s.tasks.sent t ≡ 1 → s.tasks.finish t ≡ f → s.finishes.status f ≡ 2 → s.tasks.status t ≡ 1 → (s.finishes.home f ≡ p → ⊥) → s'.tasks.status t ≡ 1
   first_kept t f e q w v n = K.kept inv place t (λ l _ _. omega arith) (λ _ _ r. n (sym (first_home t f e q w) ∙ r)) ∙ v

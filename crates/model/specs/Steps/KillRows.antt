@@ -18,7 +18,7 @@ pub record KilledRows (s : State) : Type 0 where
   pub main_statuses : MainStatuses s
   pub status_made : StatusMade s
   pub finish_statuses : FinishStatuses s
-  pub finish_made_lem : FinishMade s
+  pub finish_made : FinishMade s
   pub active : Active s
   pub publishing : Publishing s
   pub waiting : Waiting s
@@ -31,12 +31,12 @@ pub record KilledRows (s : State) : Type 0 where
   pub first-task : FirstTask s
   pub first-lost : FirstLost s
   pub blocked : Blocked s
-  pub local_live_lem : LocalLive s
+  pub local_live : LocalLive s
 
 -- a live place above 0
 pub record Lives (s : State) (p : ℕ) : Type 0 where
   pub above : 0 < p
-  pub in_session_lem : p < s.places
+  pub in_session : p < s.places
   pub alive : s.dead p ≡ false
 
 module _ {s : State} {p : ℕ} (inv : Inv s) (place : Lives s p) where
@@ -139,9 +139,9 @@ module _ {s : State} {p : ℕ} (inv : Inv s) (place : Lives s p) where
       let k = inv.mains f z l in
       rw k.0 at (inv.main_tasks m (omega (arith, r.1)) r.3 k.1).1
 
-  pub first_from_lem : (t : ℕ) → s.tasks.sent t ≡ 1 → s.finishes.published (s.tasks.finish t) ≡ 0 → (s.finishes.status (s.tasks.finish t) ≡ 5 → ⊥)
+  pub first_from : (t : ℕ) → s.tasks.sent t ≡ 1 → s.finishes.published (s.tasks.finish t) ≡ 0 → (s.finishes.status (s.tasks.finish t) ≡ 5 → ⊥)
       → s.tasks.from t ≡ s.finishes.home (s.tasks.finish t)
-  first_from_lem t e u n =
+  first_from t e u n =
       let m = inv.sent_made t (omega arith) in
       let r = inv.task_ranges t m.0 m.1 in
       (inv.sent_tasks t e).1 ∙ ap s.tasks.at (inv.first-task t e u n).2 ∙ main_at (s.tasks.finish t) r.2 r.3
@@ -163,13 +163,13 @@ module _ {s : State} {p : ℕ} (inv : Inv s) (place : Lives s p) where
   finish_statuses : FinishStatuses s'
   finish_statuses f z l = by_finish (λ w. (0 < w) × (w ≤ 5)) f (λ _ _. omega arith) (λ _. inv.finish_statuses f z l)
 
-  finish_made_lem : FinishMade s'
-  finish_made_lem f = by_finish (λ w. 0 < w → (0 < f) × (f ≤ s.finishes.made)) f (λ q _ _. home_made f q) (λ _ h. inv.finish_made_lem f h)
+  finish_made : FinishMade s'
+  finish_made f = by_finish (λ w. 0 < w → (0 < f) × (f ≤ s.finishes.made)) f (λ q _ _. home_made f q) (λ _ h. inv.finish_made f h)
 
   -- the main task of a finish that is homed elsewhere
   main_kept : (f : ℕ) → 0 < s.finishes.status f → (s.finishes.home f ≡ p → ⊥) → 5 ≤ s.tasks.status (s.finishes.main f) → s'.tasks.status (s.finishes.main f) ≡ s.tasks.status (s.finishes.main f)
   main_kept f z n l =
-      let b = inv.finish_made_lem f z in
+      let b = inv.finish_made f z in
       kept (s.finishes.main f) (λ _ _ q. n (sym (main_at f b.0 b.1) ∙ q)) (λ _ h _. omega arith)
 
   active : Active s'
@@ -240,7 +240,7 @@ module _ {s : State} {p : ℕ} (inv : Inv s) (place : Lives s p) where
       let n₀ : s.finishes.status f ≡ 5 → ⊥ = λ q. n (lost_stays f q) in
       let k = inv.first-task t e u n₀ in
       let away : s.finishes.home f ≡ p → ⊥ = λ q. n (finish_gone f q (λ w. omega (arith, k.0))) in
-      (finish_kept f away ∙ k.0, kept t (λ l _ _. omega (arith, k.1)) (λ _ _ q. away (sym (first_from_lem t e u n₀) ∙ q)) ∙ k.1, k.2)
+      (finish_kept f away ∙ k.0, kept t (λ l _ _. omega (arith, k.1)) (λ _ _ q. away (sym (first_from t e u n₀) ∙ q)) ∙ k.1, k.2)
 
   first-lost : FirstLost s'
   first-lost t e u q₅ =
@@ -250,7 +250,7 @@ module _ {s : State} {p : ℕ} (inv : Inv s) (place : Lives s p) where
       (λ n.
       let k = inv.first-task t e u n in
       eq_cases (s.finishes.home f) p
-      (λ q. gone_waiting t (omega (arith, k.1)) (omega (arith, k.1)) (first_from_lem t e u n ∙ q))
+      (λ q. gone_waiting t (omega (arith, k.1)) (omega (arith, k.1)) (first_from t e u n ∙ q))
       (λ away. absurd (n (sym (finish_kept f away) ∙ q₅))))
 
   -- B: who is made by b is from the place of b, and what is opened by b is homed there
@@ -293,7 +293,7 @@ module _ {s : State} {p : ℕ} (inv : Inv s) (place : Lives s p) where
       bool_cases key
       (λ e. by_finish (λ w. weigh key 1 3 w ≡ 0) f
       (λ _ _. weigh_out key 1 3 5 (λ _ h. omega arith))
-      (λ k. weigh_out key 1 3 (s.finishes.status f) (λ a h. omega (arith, k (opened-at b f z l (eqb-true (s.finishes.opener f) b e) (inv.finish_made_lem f (omega arith)).0 ∙ q)))))
+      (λ k. weigh_out key 1 3 (s.finishes.status f) (λ a h. omega (arith, k (opened-at b f z l (eqb-true (s.finishes.opener f) b e) (inv.finish_made f (omega arith)).0 ∙ q)))))
       (λ off. weigh_off key 1 3 (s'.finishes.status f) off)
 
   blocked : Blocked s'
@@ -338,10 +338,10 @@ module _ {s : State} {p : ℕ} (inv : Inv s) (place : Lives s p) where
       (λ y. weigh_out key 5 6 (s.tasks.status t) (λ l h. busy_other t y l h (a ∙ q))))
       (λ off. weigh_off key 5 6 (s'.tasks.status t) off)
 
-  local_live_lem : LocalLive s'
-  local_live_lem f j = eq_cases j p
+  local_live : LocalLive s'
+  local_live f j = eq_cases j p
       (λ q. rw (eq-eqb j p q) (sym (sum_zero (suc s.tasks.made) (λ t. weigh (is₃ (s.tasks.sent t) (s.tasks.finish t) (s.tasks.at t) 1 f j) 5 6 (s'.tasks.status t)) (λ t _. busy_none f j t q))))
-      (λ n. rw (ne_eqb j p n) (inv.local_live_lem f j ∙ sym (sum_ext (suc s.tasks.made) (λ t. weigh (is₃ (s.tasks.sent t) (s.tasks.finish t) (s.tasks.at t) 1 f j) 5 6 (s.tasks.status t))
+      (λ n. rw (ne_eqb j p n) (inv.local_live f j ∙ sym (sum_ext (suc s.tasks.made) (λ t. weigh (is₃ (s.tasks.sent t) (s.tasks.finish t) (s.tasks.at t) 1 f j) 5 6 (s.tasks.status t))
       (λ t. weigh (is₃ (s.tasks.sent t) (s.tasks.finish t) (s.tasks.at t) 1 f j) 5 6 (s'.tasks.status t)) (λ t _. busy_same f j t n))))
 
   -- a lost task still counts among those that were sent
@@ -358,7 +358,7 @@ module _ {s : State} {p : ℕ} (inv : Inv s) (place : Lives s p) where
     main_statuses,
     status_made,
     finish_statuses,
-    finish_made_lem,
+    finish_made,
     active,
     publishing,
     waiting,
@@ -371,5 +371,5 @@ module _ {s : State} {p : ℕ} (inv : Inv s) (place : Lives s p) where
     first-task,
     first-lost,
     blocked,
-    local_live_lem,
+    local_live,
   )

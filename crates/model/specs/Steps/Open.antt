@@ -141,11 +141,11 @@ module _ (s : State) (t : ℕ) (inv : Inv s) (runs : Runs s t) where
   finish_statuses : FinishStatuses s'
   finish_statuses f z l = upd-cases s.finishes.status (λ w. (0 < w) × (w ≤ 5)) g 1 f (λ _. omega arith) (λ ne. inv.finish_statuses f z (omega arith))
 
-  published_mark_lem : PublishedMark s'
-  published_mark_lem f = upd-cases s.finishes.published (λ w. w ≤ 1) g 0 f (λ _. omega arith) (λ _. inv.published_mark_lem f)
+  published_mark : PublishedMark s'
+  published_mark f = upd-cases s.finishes.published (λ w. w ≤ 1) g 0 f (λ _. omega arith) (λ _. inv.published_mark f)
 
-  finish_made_lem : FinishMade s'
-  finish_made_lem f = upd-cases s.finishes.status (λ w. 0 < w → (0 < f) × (f ≤ g)) g 1 f (λ q _. omega arith) (λ ne h. omega (arith, inv.finish_made_lem f h))
+  finish_made : FinishMade s'
+  finish_made f = upd-cases s.finishes.status (λ w. 0 < w → (0 < f) × (f ≤ g)) g 1 f (λ q _. omega arith) (λ ne h. omega (arith, inv.finish_made f h))
 
   published_made : PublishedMade s'
   published_made f = upd-cases s.finishes.published (λ w. 0 < w → (0 < f) × (f ≤ g)) g 0 f (λ q _. omega arith) (λ ne h. omega (arith, inv.published_made f h))
@@ -323,7 +323,7 @@ module _ (s : State) (t : ℕ) (inv : Inv s) (runs : Runs s t) where
 
   release-none : ReleaseNone s'
   release-none f n₃ = inv.release-none f (λ e. eq_cases f g
-      (λ q. omega (arith, inv.finish_made_lem f (omega arith)))
+      (λ q. omega (arith, inv.finish_made f (omega arith)))
       (λ ne. n₃ (rw (upd_other s.finishes.status g 1 f ne) e)))
 
   ghost_made : GhostMade s'
@@ -418,10 +418,10 @@ module _ (s : State) (t : ℕ) (inv : Inv s) (runs : Runs s t) where
     weigh_in (is₃ (s.tasks.finish t) (s.tasks.from t) (s.tasks.at t) f i j) 2 8 6 (omega arith) (omega arith),
   )
 
-  local_live_lem : LocalLive s'
-  local_live_lem f j = omega (
+  local_live : LocalLive s'
+  local_live f j = omega (
     arith,
-    inv.local_live_lem f j,
+    inv.local_live f j,
     grown_blocked s.tasks.made t (λ x. is₃ (s.tasks.sent x) (s.tasks.finish x) (s.tasks.at x) 1 f j) (λ x. is₃ (s'.tasks.sent x) (s'.tasks.finish x) (s'.tasks.at x) 1 f j) s.tasks.status 5 5 6 runs.high
         (λ x l. simp upd-below),
     weigh_in (is₃ (s.tasks.sent t) (s.tasks.finish t) (s.tasks.at t) 1 f j) 5 6 (s.tasks.status t) (omega (arith, runs.running)) (omega (arith, runs.running)),
@@ -443,8 +443,8 @@ module _ (s : State) (t : ℕ) (inv : Inv s) (runs : Runs s t) where
     opened,
     mains,
     finish_statuses,
-    published_mark_lem,
-    finish_made_lem,
+    published_mark,
+    finish_made,
     published_made,
     blank_finishes,
     active,
@@ -489,5 +489,5 @@ module _ (s : State) (t : ℕ) (inv : Inv s) (runs : Runs s t) where
     sent_from,
     sent_most,
     sent_tasks_most,
-    local_live_lem,
+    local_live,
   )

@@ -40,7 +40,7 @@ pub record OtherEnded (s : State) : Type 0 where
   pub named_transit : NamedTransit s
   pub fresh_locals : FreshLocals s
   pub sent_tasks_most : SentTasksMost s
-  pub local_live_lem : LocalLive s
+  pub local_live : LocalLive s
   pub local_book : LocalBook s
 
 module _ (s : State) (t : ℕ) (inv : Inv s) (runs : Runs s t) (other : s.tasks.sent t ≡ 0 → ⊥) where
@@ -103,10 +103,10 @@ module _ (s : State) (t : ℕ) (inv : Inv s) (runs : Runs s t) (other : s.tasks.
       sent_key : (a b c f j : ℕ) → a ≡ 1 → is₃ a b c 1 f j ≡ is₂ b c f j
       sent_key a b c f j e = is₂-cases b c f j (λ p q. rw (e, p, q) (is₃_same 1 f j ∙ sym (is₂_same f j))) (λ n. is₃_false a b c 1 f j (λ _ p q. both (rw (p, q) (is₂_same f j)) n) ∙ sym n)
 
-  local_live_lem : LocalLive s'
-  local_live_lem f j = omega (
+  local_live : LocalLive s'
+  local_live f j = omega (
     arith,
-    inv.local_live_lem f j,
+    inv.local_live f j,
     sum-upd (suc s.tasks.made) (λ x v. weigh (is₃ (s.tasks.sent x) (s.tasks.finish x) (s.tasks.at x) 1 f j) 5 6 v) s.tasks.status t 7 (omega (arith, runs.high)),
     counts f j,
     weigh_out (is₃ (s.tasks.sent t) (s.tasks.finish t) (s.tasks.at t) 1 f j) 5 6 7 (λ _ l. omega arith),
@@ -116,4 +116,4 @@ module _ (s : State) (t : ℕ) (inv : Inv s) (runs : Runs s t) (other : s.tasks.
   local_book f j h = inv.local_book f j (omega arith)
 
   pub other_ends : OtherEnded s'
-  other_ends = let m = moved in search (blocked, transits, on_wire, fresh_locals, sent_tasks_most, local_live_lem, local_book)
+  other_ends = let m = moved in search (blocked, transits, on_wire, fresh_locals, sent_tasks_most, local_live, local_book)

@@ -274,10 +274,10 @@ module _ (s : State) (k q : ℕ) (inv : Inv s) (full : Full s k 1) (home_lives :
   q_below : q < f₀
   q_below = omega (arith, under_le (parent-le s inv) (nearest_above nearest), inv.finish_ranges f₀ made.0 made.1)
 
-  book_parent_lem : B.BookParent s'
-  book_parent_lem f p = by_book (λ f. (s'.books.parent f < f) × (0 < s'.books.parent f → s'.books.present (s'.books.parent f) ≡ 1)) f p
+  book_parent : B.BookParent s'
+  book_parent f p = by_book (λ f. (s'.books.parent f < f) × (0 < s'.books.parent f → s'.books.present (s'.books.parent f) ≡ 1)) f p
       (rw parent-new (q_below, λ z. keeps_book q (nearest-present nearest z)))
-      (λ ne p₀. let r = inv.book_parent_lem f p₀ in rw (parent_old f ne) (r.0, λ z. keeps_book (s.books.parent f) (r.1 z)))
+      (λ ne p₀. let r = inv.book_parent f p₀ in rw (parent_old f ne) (r.0, λ z. keeps_book (s.books.parent f) (r.1 z)))
 
   adopted_dead : B.AdoptedDead s'
   adopted_dead f a = eq_cases f f₀
@@ -290,7 +290,7 @@ module _ (s : State) (k q : ℕ) (inv : Inv s) (full : Full s k 1) (home_lives :
       (λ ne.
       let p₀ : s.books.present f ≡ 1 = rw (upd_other s.books.present f₀ 1 f ne) at p in
       let r = inv.orphans f p₀ d in
-      rw (parent_old f ne, upd_other s.books.adopted f₀ 0 f ne, upd_other s.books.due f₀ 0 (s.books.parent f) (other_book (s.books.parent f) ((inv.book_parent_lem f p₀).1 r.0))) r)
+      rw (parent_old f ne, upd_other s.books.adopted f₀ 0 f ne, upd_other s.books.due f₀ 0 (s.books.parent f) (other_book (s.books.parent f) ((inv.book_parent f p₀).1 r.0))) r)
 
   book_above : B.BookAbove s'
   book_above f p = by_book (λ f. Under s.finishes.parent (s'.books.parent f) f) f p
@@ -413,7 +413,7 @@ module _ (s : State) (k q : ℕ) (inv : Inv s) (full : Full s k 1) (home_lives :
     active_book,
     book_counts,
     due_column,
-    book_parent_lem,
+    book_parent,
     adopted_dead,
     orphans,
     book_above,

@@ -76,7 +76,7 @@ module _ (s : State) (k : ℕ) (inv : Inv s) (full : Full s k 2) (home_lives : s
   -- a main task is another than t
   main_stays : (f : ℕ) → 0 < s.finishes.status f → s'.tasks.status (s.finishes.main f) ≡ s.tasks.status (s.finishes.main f)
   main_stays f h = upd_other s.tasks.status t 2 (s.finishes.main f)
-      (λ q. let b = inv.finish_made_lem f h in omega (arith, named.2, (inv.mains f b.0 b.1).1, ap s.tasks.sent q))
+      (λ q. let b = inv.finish_made f h in omega (arith, named.2, (inv.mains f b.0 b.1).1, ap s.tasks.sent q))
 
   task_statuses : T.TaskStatuses s'
   task_statuses x z l = by_row (λ w. (0 < w) × (w ≤ 8)) x (λ _. omega arith) (λ _. inv.task_statuses x z l)
@@ -90,11 +90,11 @@ module _ (s : State) (k : ℕ) (inv : Inv s) (full : Full s k 2) (home_lives : s
   finish_statuses : T.FinishStatuses s'
   finish_statuses f z l = by_finish (λ w. (0 < w) × (w ≤ 5)) f (λ _. omega arith) (λ _. inv.finish_statuses f z l)
 
-  published_mark_lem : T.PublishedMark s'
-  published_mark_lem f = upd-cases s.finishes.published (λ w. w ≤ 1) f₀ 1 f (λ _. omega arith) (λ _. inv.published_mark_lem f)
+  published_mark : T.PublishedMark s'
+  published_mark f = upd-cases s.finishes.published (λ w. w ≤ 1) f₀ 1 f (λ _. omega arith) (λ _. inv.published_mark f)
 
-  finish_made_lem : T.FinishMade s'
-  finish_made_lem f = by_finish (λ w. 0 < w → (0 < f) × (f ≤ s.finishes.made)) f (λ q _. omega (arith, made)) (λ _ h. inv.finish_made_lem f h)
+  finish_made : T.FinishMade s'
+  finish_made f = by_finish (λ w. 0 < w → (0 < f) × (f ≤ s.finishes.made)) f (λ q _. omega (arith, made)) (λ _ h. inv.finish_made f h)
 
   published_made : T.PublishedMade s'
   published_made f = upd-cases s.finishes.published (λ w. 0 < w → (0 < f) × (f ≤ s.finishes.made)) f₀ 1 f (λ q _. omega (arith, made)) (λ _ h. inv.published_made f h)
@@ -371,10 +371,10 @@ module _ (s : State) (k : ℕ) (inv : Inv s) (full : Full s k 2) (home_lives : s
         tally_is 3 m asks 1 refl,
       )
 
-  local_live_lem : L.LocalLive s'
-  local_live_lem f j =
+  local_live : L.LocalLive s'
+  local_live f j =
       let key : ℕ → Bool = λ x. is₃ (s.tasks.sent x) (s.tasks.finish x) (s.tasks.at x) 1 f j in
-      omega (arith, inv.local_live_lem f j, moves key 5 6, weigh_out (key t) 5 6 1 (λ l _. omega arith), weigh_out (key t) 5 6 2 (λ l _. omega arith))
+      omega (arith, inv.local_live f j, moves key 5 6, weigh_out (key t) 5 6 1 (λ l _. omega arith), weigh_out (key t) 5 6 2 (λ l _. omega arith))
 
   pub delivers_published_keeps : Inv (deliver_published s k)
   delivers_published_keeps = let r = replied in search (
@@ -382,8 +382,8 @@ module _ (s : State) (k : ℕ) (inv : Inv s) (full : Full s k 2) (home_lives : s
     main_statuses,
     status_made,
     finish_statuses,
-    published_mark_lem,
-    finish_made_lem,
+    published_mark,
+    finish_made,
     published_made,
     active,
     publishing,
@@ -422,5 +422,5 @@ module _ (s : State) (k : ℕ) (inv : Inv s) (full : Full s k 2) (home_lives : s
     sent_from,
     sent_most,
     sent_tasks_most,
-    local_live_lem,
+    local_live,
   )

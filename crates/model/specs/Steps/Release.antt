@@ -16,7 +16,7 @@ use Rattle.model.specs.Steps.Written as W
 use Rattle.model.specs.Steps.FinishTurned.{FinishTurned, Rows, turns}
 use Rattle.model.specs.Steps.Emptied as D
 
-module _ (s : State) (k : ℕ) (inv : Inv s) (full : Full s k 8) (waits : s.finishes.status (s.slot k).finish ≡ 3) (may_run_lem : MayRun s (s.finishes.opener (s.slot k).finish)) where
+module _ (s : State) (k : ℕ) (inv : Inv s) (full : Full s k 8) (waits : s.finishes.status (s.slot k).finish ≡ 3) (may_run : MayRun s (s.finishes.opener (s.slot k).finish)) where
   -- the finish, its opener
   abbrev f₀ : ℕ
   f₀ = (s.slot k).finish
@@ -43,7 +43,7 @@ module _ (s : State) (k : ℕ) (inv : Inv s) (full : Full s k 8) (waits : s.fini
   by_row P x a b = eq_cases o 0
       (λ e. rw (wake-none o s.tasks.status x e) (b (λ z _. omega arith)))
       (λ n. rw (wake_some o s.tasks.status x (omega arith))
-      (upd-cases s.tasks.status P o 5 x (λ q. a (omega arith) q (ap s.tasks.status q ∙ may_run_lem (omega arith))) (λ ne. b (λ _. ne))))
+      (upd-cases s.tasks.status P o 5 x (λ q. a (omega arith) q (ap s.tasks.status q ∙ may_run (omega arith))) (λ ne. b (λ _. ne))))
 
   rows : Rows s (s.finishes.main f₀) o s₁.tasks.status
   rows P x a b c = by_row P x b (λ n. eq_cases x (s.finishes.main f₀) (λ q. rw (ap s.tasks.status q ∙ (inv.waiting f₀ waits).2) (a q)) (λ ne. c ne n))

@@ -186,12 +186,12 @@ module _ (s : State) (k v : ℕ) (m : Message) (inv : Inv s) (in-range : k < s.s
         weigh_in (key b₀) 2 8 5 (omega arith) (omega arith),
       )
 
-  local_live_lem : LocalLive s'
-  local_live_lem f j =
+  local_live : LocalLive s'
+  local_live f j =
       let key : ℕ → Bool = λ x. is₃ (s.tasks.sent x) (s.tasks.finish x) (s.tasks.at x) 1 f j in
       omega (
         arith,
-        inv.local_live_lem f j,
+        inv.local_live f j,
         sums key 5 6,
         weigh_out (key t) 5 6 2 (λ l _. omega arith),
         weigh_out (key t) 5 6 v (λ l _. omega arith),
@@ -238,5 +238,5 @@ module _ (s : State) (k v : ℕ) (m : Message) (inv : Inv s) (in-range : k < s.s
       sent_from,
       sent_most,
       sent_tasks_most,
-      local_live_lem,
+      local_live,
     )

@@ -16,7 +16,7 @@ use Rattle.model.specs.Steps.Sent.{Aside, NoReport, other_tag, rises, aside, no_
 use Rattle.model.specs.Steps.Spawned as N
 
 module _ (s : State) (t p k : ℕ) (inv : Inv s) (runs : Runs s t) (place : p < s.places) (away : s.tasks.at t ≡ p → ⊥) (free : Free s k)
-    (is_main_lem : s.tasks.sent t ≡ 0) (unpublished : s.finishes.published (s.tasks.finish t) ≡ 0) (is-active : s.finishes.status (s.tasks.finish t) ≡ 1) where
+    (is_main : s.tasks.sent t ≡ 0) (unpublished : s.finishes.published (s.tasks.finish t) ≡ 0) (is-active : s.finishes.status (s.tasks.finish t) ≡ 1) where
   -- the finish, the new task, the publish
   abbrev f₀ : ℕ
   f₀ = s.tasks.finish t
@@ -41,13 +41,13 @@ module _ (s : State) (t p k : ℕ) (inv : Inv s) (runs : Runs s t) (place : p < 
   by_finish P g a b = upd-cases s.finishes.status P f₀ 2 g (λ q. a q refl) (λ ne. b (λ q _. ne q))
 
   spawns : N.Spawned s₁
-  spawns = N.spawns s t p 1 s₁.finishes.status inv runs place away turns (λ _. (is_main_lem, is-active)) by_finish
+  spawns = N.spawns s t p 1 s₁.finishes.status inv runs place away turns (λ _. (is_main, is-active)) by_finish
 
   was : (x w : ℕ) → s₁.tasks.status x ≡ w → (x ≡ n → w ≡ 1 → ⊥) → (w ≡ 6 → ⊥) → s.tasks.status x ≡ w
-  was = N.was s t p 1 s₁.finishes.status inv runs place away turns (λ _. (is_main_lem, is-active)) by_finish
+  was = N.was s t p 1 s₁.finishes.status inv runs place away turns (λ _. (is_main, is-active)) by_finish
 
   unnamed : naming s 1 n + naming s 2 n + naming s 3 n + naming s 4 n + naming s 5 n + naming s 6 n ≡ 0
-  unnamed = N.unnamed s t p 1 s₁.finishes.status inv runs place away turns (λ _. (is_main_lem, is-active)) by_finish
+  unnamed = N.unnamed s t p 1 s₁.finishes.status inv runs place away turns (λ _. (is_main, is-active)) by_finish
 
   tag : (x : ℕ) → 0 < x → (x ≡ 1 → ⊥) → W.Elsewhere s₁ k m₀ free.range x
   tag x z ne = other_tag s₁ k m₀ free.range free.tag x z (λ q. ne (sym q))
@@ -59,7 +59,7 @@ module _ (s : State) (t p k : ℕ) (inv : Inv s) (runs : Runs s t) (place : p < 
   no_reports = let e = spawns in no_report s₁ k m₀ free.range free.tag (λ q. omega arith) (λ q. omega arith) (search e)
 
   names_finish : M.NamesFinish s'
-  names_finish = W.each s₁ k m₀ free.range (M.NamesFinishOf s₁) inv.names_finish (λ _. inv.finish_made_lem f₀ (omega arith))
+  names_finish = W.each s₁ k m₀ free.range (M.NamesFinishOf s₁) inv.names_finish (λ _. inv.finish_made f₀ (omega arith))
 
   names-task : M.NamesTask s'
   names-task = W.each s₁ k m₀ free.range (M.NamesTaskOf s₁) spawns.names-task (λ _ _. simp upd_same (omega arith, omega arith, refl, refl))
@@ -149,7 +149,7 @@ module _ (s : State) (t p k : ℕ) (inv : Inv s) (runs : Runs s t) (place : p < 
       omega (
         arith,
         inv.sent_tasks_most f i j ne,
-        N.grows s t p 1 s₁.finishes.status inv runs place away turns (λ _. (is_main_lem, is-active)) by_finish key key' 2 8 (λ x l. simp upd-below),
+        N.grows s t p 1 s₁.finishes.status inv runs place away turns (λ _. (is_main, is-active)) by_finish key key' 2 8 (λ x l. simp upd-below),
         weigh_in (key t) 2 8 5 (omega arith) (omega arith),
         weigh_in (key t) 2 8 6 (omega arith) (omega arith),
         weigh_out (key' n) 2 8 1 (λ l _. omega arith),

@@ -37,22 +37,22 @@ module _ (s : State) (t p k : ℕ) (inv : Inv s) (runs : Runs s t) (place : p < 
   runs_sent : (s.tasks.sent t ≡ 0 → ⊥) → s.tasks.sent t ≡ 1
   runs_sent ne = omega (arith, inv.task_ranges t runs.low runs.high)
 
-  is_published_lem : s.finishes.published f₀ ≡ 1
-  is_published_lem = eq_cases (s.finishes.published f₀) 0
+  is_published : s.finishes.published f₀ ≡ 1
+  is_published = eq_cases (s.finishes.published f₀) 0
       (λ z. absurd (eq_cases (s.tasks.sent t) 0
       (λ e. (if-main e).0 z)
       (λ ne. eq_cases (s.finishes.status f₀) 5
       (λ q. omega (arith, runs.running, inv.first-lost t (runs_sent ne) z q))
       (λ n₅. omega (arith, runs.running, (inv.first-task t (runs_sent ne) z n₅).1)))))
-      (λ ne. omega (arith, inv.published_mark_lem f₀))
+      (λ ne. omega (arith, inv.published_mark f₀))
 
   present : s.books.present f₀ ≡ 1
   present = eq_cases (s.tasks.sent t) 0
-      (λ e. inv.active_book f₀ (if-main e).1 ∙ is_published_lem)
+      (λ e. inv.active_book f₀ (if-main e).1 ∙ is_published)
       (λ ne. inv.local_book f₀ (s.tasks.at t) (busy_counted s inv t (runs_sent ne) (omega (arith, runs.running)) (omega (arith, runs.running))))
 
   turns : 2 ≡ suc (s.finishes.published f₀)
-  turns = omega (arith, is_published_lem)
+  turns = omega (arith, is_published)
 
   by_finish : N.Turned s f₀ 2 s.finishes.status
   by_finish P g a b = b (λ _ e. omega arith)
@@ -133,7 +133,7 @@ module _ (s : State) (t p k : ℕ) (inv : Inv s) (runs : Runs s t) (place : p < 
       (λ ne. omega (arith, naming_rises x, inv.named_transit x (was x 2 e (λ q _. ne q) (λ q. omega arith)), on_false (eqb n x) 1 (ne_eqb n x (λ q. ne (sym q)))))
 
   fresh_messages : M.FreshMessages s'
-  fresh_messages = W.each s₁ k m₀ free.range (M.FreshMessagesOf s₁) inv.fresh_messages (λ _ _. is_published_lem)
+  fresh_messages = W.each s₁ k m₀ free.range (M.FreshMessagesOf s₁) inv.fresh_messages (λ _ _. is_published)
 
   -- one more asks for transit, and there is one more task of that pair
   sent_tasks_most : C.SentTasksMost s'

@@ -31,7 +31,7 @@ pub record Spawned (s : State) : Type 0 where
   pub opened : R.Opened s
   pub mains : R.Mains s
   pub finish_statuses : R.FinishStatuses s
-  pub finish_made_lem : R.FinishMade s
+  pub finish_made : R.FinishMade s
   pub active : T.Active s
   pub publishing : T.Publishing s
   pub waiting : T.Waiting s
@@ -58,7 +58,7 @@ pub record Spawned (s : State) : Type 0 where
   pub skipped : B.Skipped s
   pub counted : C.Counted s
   pub counted-denied : C.CountedDenied s
-  pub local_live_lem : L.LocalLive s
+  pub local_live : L.LocalLive s
 
 -- the finish f is publishing, if v is 1, and every other finish is as it was
 abbrev pub Turned : State → ℕ → ℕ → (ℕ → ℕ) → Type 1
@@ -79,7 +79,7 @@ module _ (s : State) (t p v : ℕ) (status : ℕ → ℕ) (inv : Inv s) (runs : 
   s' = with_finish_status status (with_spawned t p v s)
 
   waits : (1 ≤ v) × (v ≤ 2)
-  waits = omega (arith, inv.published_mark_lem f₀)
+  waits = omega (arith, inv.published_mark f₀)
 
   -- what is to be shown of a status
   by_row : (P : ℕ → Type 0) (x : ℕ) → (x ≡ n → P v) → (x ≡ t → P 6) → ((x ≡ n → ⊥) → (x ≡ t → ⊥) → P (s.tasks.status x)) → P (s'.tasks.status x)
@@ -176,8 +176,8 @@ module _ (s : State) (t p v : ℕ) (status : ℕ → ℕ) (inv : Inv s) (runs : 
   finish_statuses : R.FinishStatuses s'
   finish_statuses g z l = by_finish (λ w. (0 < w) × (w ≤ 5)) g (λ _ _. omega arith) (λ _. inv.finish_statuses g z l)
 
-  finish_made_lem : R.FinishMade s'
-  finish_made_lem g = by_finish (λ w. 0 < w → (0 < g) × (g ≤ s.finishes.made)) g (λ q _ _. omega (arith, made)) (λ _. inv.finish_made_lem g)
+  finish_made : R.FinishMade s'
+  finish_made g = by_finish (λ w. 0 < w → (0 < g) × (g ≤ s.finishes.made)) g (λ q _ _. omega (arith, made)) (λ _. inv.finish_made g)
 
   active : T.Active s'
   active g e =
@@ -393,13 +393,13 @@ module _ (s : State) (t p v : ℕ) (status : ℕ → ℕ) (inv : Inv s) (runs : 
   counted-denied : C.CountedDenied s'
   counted-denied g i j b a d = omega (arith, inv.counted-denied g i j b a d, ended_same g i j)
 
-  local_live_lem : L.LocalLive s'
-  local_live_lem f j =
+  local_live : L.LocalLive s'
+  local_live f j =
       let key : ℕ → Bool = λ x. is₃ (s.tasks.sent x) (s.tasks.finish x) (s.tasks.at x) 1 f j in
       let key' : ℕ → Bool = λ x. is₃ (s'.tasks.sent x) (s'.tasks.finish x) (s'.tasks.at x) 1 f j in
       omega (
         arith,
-        inv.local_live_lem f j,
+        inv.local_live f j,
         grows key key' 5 6 (λ x l. simp upd-below),
         weigh_in (key t) 5 6 5 (omega arith) (omega arith),
         weigh_in (key t) 5 6 6 (omega arith) (omega arith),
@@ -419,7 +419,7 @@ module _ (s : State) (t p v : ℕ) (status : ℕ → ℕ) (inv : Inv s) (runs : 
     opened,
     mains,
     finish_statuses,
-    finish_made_lem,
+    finish_made,
     active,
     publishing,
     waiting,
@@ -446,5 +446,5 @@ module _ (s : State) (t p v : ℕ) (status : ℕ → ℕ) (inv : Inv s) (runs : 
     skipped,
     counted,
     counted-denied,
-    local_live_lem,
+    local_live,
   )

@@ -43,8 +43,8 @@ module _ (s : State) (k : ℕ) (inv : Inv s) (full : Full s k 6) (alive : s.dead
   paired = inv.names-pair k full.range (omega (arith, full.tag)) (omega (arith, full.tag))
 
   -- its finish is published and has a book
-  is_published_lem : s.finishes.published m.finish ≡ 1
-  is_published_lem = inv.fresh_messages k full.range (omega (arith, full.tag)) (λ q. omega (arith, full.tag))
+  is_published : s.finishes.published m.finish ≡ 1
+  is_published = inv.fresh_messages k full.range (omega (arith, full.tag)) (λ q. omega (arith, full.tag))
 
   has_book : s.books.present m.finish ≡ 1
   has_book = eq_cases (s.books.present m.finish) 0
@@ -172,20 +172,20 @@ module _ (s : State) (k : ℕ) (inv : Inv s) (full : Full s k 6) (alive : s.dead
   fresh_locals : FreshLocals s'
   fresh_locals f j i e =
       let r = inv.fresh_locals f j i e in
-      let other : m.finish ≡ f → ⊥ = λ q. omega (arith, is_published_lem, ap s.finishes.published q) in (
+      let other : m.finish ≡ f → ⊥ = λ q. omega (arith, is_published, ap s.finishes.published q) in (
         omega (arith, r.0, on_false (here f i j) 1 (is₃_false m.finish m.from m.to f i j (λ q _ _. other q))),
         r.1,
         omega (arith, r.2, on_false (place f j) 1 (is₂_false m.finish m.to f j (λ q _. other q))),
         r.3,
       )
 
-  local_live_lem : LocalLive s'
-  local_live_lem f j =
+  local_live : LocalLive s'
+  local_live f j =
       let key : ℕ → Bool = λ x. is₃ (s.tasks.sent x) (s.tasks.finish x) (s.tasks.at x) 1 f j in
       let here-key : on (key t) 1 ≡ on (place f j) 1 = is₂-cases m.finish m.to f j
       (λ p q. on_true (key t) 1 (rw (named.2, named.3, paired.1, p, q) (is₃_same 1 f j)) ∙ sym (on_true (place f j) 1 (rw (p, q) (is₂_same f j))))
       (λ n. on_false (key t) 1 (is₃_false (s.tasks.sent t) (s.tasks.finish t) (s.tasks.at t) 1 f j (λ _ p q. both (rw (sym named.3 ∙ p, sym paired.1 ∙ q) (is₂_same f j)) n)) ∙ sym (on_false (place f j) 1 n)) in
-      omega (arith, inv.local_live_lem f j, sums key 5 6, weigh_out (key t) 5 6 3 (λ l _. omega arith), weigh_in (key t) 5 6 5 (omega arith) (omega arith), here-key)
+      omega (arith, inv.local_live f j, sums key 5 6, weigh_out (key t) 5 6 3 (λ l _. omega arith), weigh_in (key t) 5 6 5 (omega arith) (omega arith), here-key)
 
   reported_most : ReportedMost s'
   reported_most f j i = omega (arith, inv.reported_most f j i)
@@ -225,7 +225,7 @@ module _ (s : State) (k : ℕ) (inv : Inv s) (full : Full s k 6) (alive : s.dead
     counted-denied,
     not_from_self,
     fresh_locals,
-    local_live_lem,
+    local_live,
     reported_most,
     pending,
     unreported,

@@ -48,7 +48,7 @@ module _ (s : State) (t u v : ℕ) (status : ℕ → ℕ) (inv : Inv s) (is_sent
 
   -- a main task is another
   main_other : (f : ℕ) → 0 < s.finishes.status f → s.finishes.main f ≡ t → ⊥
-  main_other f h q = let b = inv.finish_made_lem f h in omega (arith, (inv.mains f b.0 b.1).1, ap s.tasks.sent q)
+  main_other f h q = let b = inv.finish_made f h in omega (arith, (inv.mains f b.0 b.1).1, ap s.tasks.sent q)
 
   task_statuses : R.TaskStatuses s'
   task_statuses x z l = by_Row (λ w. (0 < w) × (w ≤ 8)) x (λ _. omega arith) (λ _ _. omega arith) (λ _. inv.task_statuses x z l)
@@ -75,7 +75,7 @@ module _ (s : State) (t u v : ℕ) (status : ℕ → ℕ) (inv : Inv s) (is_sent
   publishing : T.Publishing s'
   publishing f e =
       let k = inv.publishing f e in
-      let b = inv.finish_made_lem f (omega arith) in (
+      let b = inv.finish_made f (omega arith) in (
         k.0,
         k.1,
         by_Row (λ w. w ≡ 6) (s.finishes.main f)

@@ -33,7 +33,7 @@ pub record Cleared (s : State) : Type 0 where
   pub active_book : B.ActiveBook s
   pub book_counts : B.BookCountsBut 0 s
   pub due_column : B.DueColumn s
-  pub book_parent_lem : B.BookParent s
+  pub book_parent : B.BookParent s
   pub adopted_dead : B.AdoptedDead s
   pub orphans : B.Orphans s
   pub book_above : B.BookAbove s
@@ -144,11 +144,11 @@ module _ (s : State) (f : â„•) (inv : InvBut f s) (present : s.books.present f â
   due_column : B.DueColumn s'
   due_column g p e = let o = left g p in rw (live_same g o.0) (inv.due_column g o.1 (rw (upd_other s.books.due f 0 g o.0) at e))
 
-  book_parent_lem : B.BookParent s'
-  book_parent_lem g p =
+  book_parent : B.BookParent s'
+  book_parent g p =
       let o = left g p in
       let ne = o.0 in
-      let r = inv.book_parent_lem g o.1 in
+      let r = inv.book_parent g o.1 in
       let child = no_child s inv f present closes g o.1 in
       rw (upd_other s.books.parent f 0 g ne) (r.0, Î» z. stays (s.books.parent g) child (r.1 z))
 
@@ -228,7 +228,7 @@ module _ (s : State) (f : â„•) (inv : InvBut f s) (present : s.books.present f â
     active_book,
     book_counts,
     due_column,
-    book_parent_lem,
+    book_parent,
     adopted_dead,
     orphans,
     book_above,

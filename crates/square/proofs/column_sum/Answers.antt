@@ -3,7 +3,7 @@ use mathlib.Core.Path.{◌≡◌}
 use Rattle.square.specs.Square.{rows_sum, cell_at}
 use Rattle.square.proofs.Sums.{rows_none, rows_more, rows_done}
 use borrow.Author.Rules.{rules}
-use Rattle.square.proofs.column-sum.Goals as goal
+use Rattle.square.proofs.column_sum.Goals as goal
 
 pub loop-i-init : goal.loop-i-init
 loop-i-init c = (search rules, (search rules, search (rules, rows_none)))

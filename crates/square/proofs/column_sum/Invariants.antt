@@ -3,7 +3,7 @@ use mathlib.Core.Path.{◌≡◌}
 use Rattle.square.specs.Square.{rows_sum, cell_at}
 use Rattle.square.proofs.Sums.{rows_none, rows_more, rows_done}
 use borrow.Author.Rules.{rules}
-use Rattle.square.proofs.column-sum.Given as goal
+use Rattle.square.proofs.column_sum.Given as goal
 
 abbrev pub invariant-loop-i : goal.invariant-loop-i
 invariant-loop-i l = (l.i ≤ 8) × ((l.c ≤ 255 * l.i) × (l.c ≡ rows_sum (cell_at l.v) l.q l.i))

@@ -1,0 +1,18 @@
+use Prim.Native.Nat.{◌≤◌, ◌*◌, ◌-◌}
+use mathlib.Core.Path.{◌≡◌}
+use native.Mathlib.Omega.{arith}
+use lib.ListN.{length}
+use Rattle.io.proofs.Counting.{prefix_len_of_le}
+use Rattle.tables.specs.Bytes.{write}
+use Rattle.lines.specs.Lines.{step_lines}
+use Rattle.lines.proofs.Words.{lines_none, lines_start, lines_more, lines_end}
+use borrow.Author.Rules.{rules}
+use Rattle.lines.proofs.put_steps.Given as goal
+
+abbrev pub invariant-loop-i : goal.invariant-loop-i
+invariant-loop-i l =
+    ((l.i ≤ l.n) × ((l.e ≤ 20 * l.i) × (length l.out ≡ length l.initial.out)))
+    × ((l.out ≡ write l.initial.out 0 (step_lines l.log l.i)) × (l.e ≡ length (step_lines l.log l.i)))
+
+abbrev pub decreases-loop-i : goal.decreases-loop-i
+decreases-loop-i l = l.n - l.i
