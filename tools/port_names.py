@@ -147,8 +147,8 @@ def scoped(text, p, out, parts):
     """A field keeps its plain name where nothing else in scope bears it: in the model, which cites no rules, and behind a dot."""
     for n in sorted(n for n in parts | HYPOTHESES if out.get(n, "").endswith("_lem")):
         new = out[n]
-        before = r"(?<![\w'.-])" if p.startswith(MODELS) else r"(?<=\.)"
-        text = re.sub(rf"{before}{new}(?![\w'-])|(?<=\.){new}(?![\w'-])", new.removesuffix("_lem"), text)
+        before = r"(?<![\w'.-])" if p.startswith(MODELS) else r"(?<=\.)(?<!Use\.)"
+        text = re.sub(rf"{before}{new}(?![\w'-])|(?<=\.)(?<!Use\.){new}(?![\w'-])", new.removesuffix("_lem"), text)
     return text
 
 

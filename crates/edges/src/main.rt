@@ -4,39 +4,42 @@
 
 ghost use Rattle.std.specs.Prelude.{◌≤◌, ◌<◌};
 
-fn step(t: &mut [u8; 15104], i: u32)
+use std::io::{self, Write};
+
+fn step<W: Write>(out: &mut W, t: &mut [u8; 15104], i: u32) -> io::Result<()>
     requires { i < 1348 }
 {
     script::spoil(t, i);
     let before = *t;
     let answer = finish::finish_step(t, &script::record(i));
     let messages = finish::finish_messages_in_flight(t);
-    told::tell(i, answer, messages, &before, t);
+    told::tell(out, i, answer, messages, &before, t)
 }
 
 // Tables of another length.
-fn short_tables() {
+fn short_tables<W: Write>(out: &mut W) -> io::Result<()> {
     let mut t = [1u8; 15103];
     let before = t;
     let answer = finish::finish_step(&mut t, &[9, 3, 0, 0]);
-    told::tell_lengths(15103, 4, answer, check::same(&t, &before));
+    told::tell_lengths(out, 15103, 4, answer, check::same(&t, &before))
 }
 
 // A record of another length.
-fn short_record() {
+fn short_record<W: Write>(out: &mut W) -> io::Result<()> {
     let mut t = [1u8; 15104];
     let before = t;
     let answer = finish::finish_step(&mut t, &[9, 3, 0]);
-    told::tell_lengths(15104, 3, answer, check::same(&t, &before));
+    told::tell_lengths(out, 15104, 3, answer, check::same(&t, &before))
 }
 
-fn main() {
+fn main(rt: HostRuntime) -> io::Result<()> {
+    let mut out = rt.stdout();
     let mut t = [0u8; 15104];
     let mut i: u32 = 0;
     while i < script::STEPS {
-        step(&mut t, i);
+        step(&mut out, &mut t, i)?;
         i += 1;
     }
-    short_tables();
-    short_record();
+    short_tables(&mut out)?;
+    short_record(&mut out)
 }

@@ -2,12 +2,12 @@
 // those that say a last incomplete record and the end.
 #![tactic(auto)]
 
-ghost use Rattle.std.specs.Prelude.{◌≡◌, ◌+◌, ◌*◌, ◌^◌, ◌≤◌, ◌<◌, length};
+ghost use Rattle.std.specs.Prelude.{◌≡◌, ◌+◌, ◌*◌, ◌^◌, ◌≤◌, ◌<◌, length, IfOk};
 ghost use Rattle.io.specs.Counts.{IsPrefixLen};
 ghost use Rattle.tables.specs.Bytes.{write};
 ghost use Rattle.lines.specs.Lines.{word, record_line, step_line, step_lines};
 
-use libc::{STDIN_FILENO, STDOUT_FILENO};
+use std::io::{self, Read, Write};
 
 // Puts a number and the byte that ends it, a space or a line end.
 fn put_word(out: &mut [u8], at: usize, n: u64, end: u8) -> usize
@@ -70,65 +70,82 @@ pub fn put_steps(out: &mut [u8], log: &[u8], n: usize) -> usize
     e
 }
 
-// Reads a line of standard input, byte by byte, so that nothing after it is read: up to its newline, which is left out, or to the end
-// of the input, or as many bytes as the buffer holds. Answers how many there are.
-pub fn read_line(line: &mut [u8]) -> usize
-    ensures { IsPrefixLen result line.new }
+// Reads a line, byte by byte, so that nothing after it is read: up to its newline, which is left out, or to the end of the input, or as
+// many bytes as the buffer holds. Answers how many there are.
+pub fn read_line<R: Read>(input: &mut R, line: &mut [u8]) -> io::Result<usize>
+    ensures { IfOk result (λ n. IsPrefixLen n line.new) }
 {
-    let mut n: usize = 0;
-    while n < line.len() {
+    for n in 0..line.len() {
         let mut one = [0u8; 1];
-        if io::read_full(STDIN_FILENO, &mut one) == 0 {
-            return n;
+        if input.read(&mut one)? == 0 {
+            return Ok(n);
         }
         if one[0] == b'\n' {
-            return n;
+            return Ok(n);
         }
         line[n] = one[0];
-        n += 1;
     }
-    n
+    Ok(line.len())
 }
 
-// Says a number and a space.
-fn say_number(n: u32) {
-    io::print_decimal(STDOUT_FILENO, n as u64);
-    io::write_all(STDOUT_FILENO, b" ");
+// Reads until the buffer is full or the input ends, and answers how many bytes there are.
+pub fn read_full<R: Read>(input: &mut R, buf: &mut [u8]) -> io::Result<usize>
+    ensures { IfOk result (λ n. IsPrefixLen n buf.new) }
+{
+    let mut n: usize = 0;
+    while n < buf.len() {
+        let more = input.read(&mut buf[n..])?;
+        if more == 0 {
+            return Ok(n);
+        }
+        n += more;
+    }
+    Ok(n)
+}
+
+// Says a number and the byte that ends it.
+fn say_number<W: Write>(out: &mut W, n: u64, end: u8) -> io::Result<()> {
+    let mut text = [0u8; 21];
+    let e = put_word(&mut text, 0, n, end);
+    out.write_all(&text[..e])
 }
 
 // Says the last line: of the printed run its running tasks, the status of finish 1 and the messages in flight; of a tree its steps,
 // kills and zero answers.
-pub fn say_end(a: u32, b: u32, c: u32) {
-    io::write_all(STDOUT_FILENO, b"end ");
-    say_number(a);
-    say_number(b);
-    io::print_decimal(STDOUT_FILENO, c as u64);
-    io::write_all(STDOUT_FILENO, b"\n");
+pub fn say_end<W: Write>(out: &mut W, a: u32, b: u32, c: u32) -> io::Result<()> {
+    out.write_all(b"end ")?;
+    say_number(out, a as u64, b' ')?;
+    say_number(out, b as u64, b' ')?;
+    say_number(out, c as u64, b'\n')
 }
 
-// Says a last incomplete record where the n bytes read, whose first record has this number, end in one; answers whether it was written.
-fn say_short(n: usize, first: u64) -> bool
+// Says a last incomplete record where the n bytes read, whose first record has this number, end in one.
+fn say_short<W: Write>(out: &mut W, n: usize, first: u64) -> io::Result<()>
     requires { (n ≤ 4096) × (first + 1024 < 2 ^ 64) }
 {
     if n % 4 == 0 {
-        return true;
+        return Ok(());
     }
-    if io::print_decimal(STDOUT_FILENO, first + (n / 4) as u64) {
-        return io::write_all(STDOUT_FILENO, b" short\n");
-    }
-    false
+    say_number(out, first + (n / 4) as u64, b' ')?;
+    out.write_all(b"short\n")
 }
 
 // After a turn that read n bytes and wrote their lines: a turn that was not full is the last, and the end is said. Answers whether
 // another turn follows.
-pub fn end_turn(n: usize, first: u64, running: u32, status: u32, messages: u32) -> bool
+pub fn end_turn<W: Write>(
+    out: &mut W,
+    n: usize,
+    first: u64,
+    running: u32,
+    status: u32,
+    messages: u32,
+) -> io::Result<bool>
     requires { (n ≤ 4096) × (first + 1024 < 2 ^ 64) }
 {
     if n == 4096 {
-        return true;
+        return Ok(true);
     }
-    if say_short(n, first) {
-        say_end(running, status, messages);
-    }
-    false
+    say_short(out, n, first)?;
+    say_end(out, running, status, messages)?;
+    Ok(false)
 }

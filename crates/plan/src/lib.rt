@@ -6,7 +6,7 @@ ghost use Rattle.plan.specs.Tree.{tree_size};
 ghost use Rattle.plan.specs.Plan.{fits, first_line, ReadsAs};
 ghost use Rattle.plan.specs.Reading.{is_digit, goes_on, with_digit, read_on, number_of, word_of, last_of, plan_of, Found};
 
-#[derive(Drop)]
+#[derive(Clone, Copy)]
 pub struct Plan {
     pub levels: u32,
     pub width: u32,

@@ -88,7 +88,7 @@ module _ {t : List ℕ} {a : State} (h : Held t a) where
   task_number k e = let r = Use.task_made_lem t k e in (r.0, omega (arith, r.1, read_tasks_made h.seen))
 
   pub finish_number : (f : ℕ) → finish_made t f ≡ true → (0 < f) × (f ≤ a.finishes.made)
-  finish_number f e = let r = Use.finish_made t f e in (r.0, omega (arith, r.1, read_finishes_made h.seen))
+  finish_number f e = let r = Use.finish_made_lem t f e in (r.0, omega (arith, r.1, read_finishes_made h.seen))
 
   -- a full slot names a made finish
   pub slot_names : (k : ℕ) → ((a.slot k).tag ≡ 0 → ⊥) → (0 < (a.slot k).finish) × ((a.slot k).finish ≤ a.finishes.made)

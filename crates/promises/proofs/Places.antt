@@ -3,7 +3,7 @@ use mathlib.Core.Path.{◌≡◌, refl}
 use Prim.Native.Nat.{ℕ}
 use Rattle.model.specs.State.{State}
 use Rattle.model.specs.Effects.Closing.{Closing, stays, ends_ghost, releases, vanishes}
-use Rattle.model.specs.Step.{Spawn, spawns_first, spawns_later, End, ends_unpublished, ends_published, ends_other, ends_last, kills, Settle, adopts, cancels, asks, discards, delivers_publish, delivers_published, delivers_transit, refuses_transit, delivers_granted, loses_granted, delivers_denied, delivers_task, refuses_task, delivers_report, delivers_release, delivers_ghost_ended, delivers_count_dropped, delivers_dropped, Move, spawns, opens, ends, loses, settles}
+use Rattle.model.specs.Step.{Spawn, spawns_first, spawns_later, End, ends_unpublished, ends_published, ends_other, ends_last, Kill, kills, Settle, adopts, cancels, asks, discards, delivers_publish, delivers_published, delivers_transit, refuses_transit, delivers_granted, loses_granted, delivers_denied, delivers_task, refuses_task, delivers_report, delivers_release, delivers_ghost_ended, delivers_count_dropped, delivers_dropped, Move, spawns, opens, ends, loses, settles}
 
 closing_places : {s : State} {f k : ℕ} {s' : State} → Closing s f k s' → s'.places ≡ s.places
 closing_places (stays c) = refl
@@ -41,9 +41,12 @@ settle_places (delivers_ghost_ended k a b c d) = closing_places d
 settle_places (delivers_count_dropped k a b c) = refl
 settle_places (delivers_dropped k a b c d e) = closing_places e
 
+kill_places : {s : State} {p : ℕ} {s' : State} → Kill s p s' → s'.places ≡ s.places
+kill_places (kills a b c) = refl
+
 pub move_places : {s s' : State} → Move s s' → s'.places ≡ s.places
 move_places (spawns t p m) = spawn_places m
 move_places (opens t r) = refl
 move_places (ends t m) = end_places m
-move_places (loses p (kills a b c)) = refl
+move_places (loses p m) = kill_places m
 move_places (settles m) = settle_places m

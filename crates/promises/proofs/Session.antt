@@ -82,10 +82,10 @@ module _ {t : List ℕ} (good : Good t) (r : List ℕ) (other : takes_begin t r 
 
 pub all_follow : {t : List ℕ} → Good t → (rs : List (List ℕ)) → no_begin t rs ≡ true → Follows t (played t rs)
 unfolding no_begin played
-all_follow good [] n = record { good = good; released = λ f q. q }
+all_follow {t} good [] n = record { good = good; released = λ f q. q }
 all_follow {t} good (r ∷ rs) n = bool_cases (takes_begin t r)
     (λ e. both n (rw e refl))
-    (λ e. let o = follows good r e in let p = all_follow o.good rs (rw e at n) in record { good = p.good; released = λ f q. p.released f (o.released f q) })
+    (λ e. let o = follows good r e in let p = all_follow {t = after t r} o.good rs (rw e at n) in record { good = p.good; released = λ f q. p.released f (o.released f q) })
 
 -- ---- records, and then later ones
 pub played_later : (t : List ℕ) (rs later : List (List ℕ)) → played t (rs ++ later) ≡ played (played t rs) later

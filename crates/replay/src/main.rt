@@ -5,7 +5,7 @@
 ghost use Rattle.std.specs.Prelude.{◌+◌, ◌*◌, ◌^◌, ◌≤◌, ◌<◌, length};
 ghost use Rattle.io.specs.Counts.{IsPrefixLen};
 
-use libc::{STDIN_FILENO, STDOUT_FILENO};
+use std::io::{self, Read, Write};
 
 // Plays the whole records of a part of a schedule, the first of them with this number, and answers how many bytes of text there are.
 fn play(t: &mut [u8], schedule: &[u8], first: u64, out: &mut [u8]) -> usize
@@ -24,37 +24,43 @@ fn play(t: &mut [u8], schedule: &[u8], first: u64, out: &mut [u8]) -> usize
     e
 }
 
-// A turn: reads up to 1,024 records, plays them and writes their lines. Answers whether another turn follows: none does where a write
-// failed.
-fn play_some(t: &mut [u8; 15104], first: u64) -> bool
+// A turn: reads up to 1,024 records, plays them and writes their lines. Answers whether another turn follows.
+fn play_some<R: Read, W: Write>(
+    input: &mut R,
+    output: &mut W,
+    t: &mut [u8; 15104],
+    first: u64,
+) -> io::Result<bool>
     requires { first + 1024 < 2 ^ 64 }
 {
-    let mut schedule = io::buffer();
-    let n = io::read_full(STDIN_FILENO, &mut schedule);
-    let mut out = io::large_buffer();
+    let mut schedule = [0u8; 4096];
+    let n = lines::read_full(input, &mut schedule)?;
+    let mut out = [0u8; 65536];
     let e = play(t, &schedule[..n], first, &mut out);
-    if io::write_all(STDOUT_FILENO, &out[..e]) {
-        let running = finish::finish_running_tasks(t);
-        let status = finish::finish_status(t, 1);
-        return lines::end_turn(
-            n,
-            first,
-            running,
-            status,
-            finish::finish_messages_in_flight(t),
-        );
-    }
-    false
+    output.write_all(&out[..e])?;
+    let running = finish::finish_running_tasks(t);
+    let status = finish::finish_status(t, 1);
+    lines::end_turn(
+        output,
+        n,
+        first,
+        running,
+        status,
+        finish::finish_messages_in_flight(t),
+    )
 }
 
 // The turns are counted to a number that no run reaches: a proved loop ends, and nothing says that the input does.
-fn main() {
+fn main(rt: HostRuntime) -> io::Result<()> {
+    let mut input = rt.stdin();
+    let mut output = rt.stdout();
     let mut t = [0u8; 15104];
     let mut turn: u64 = 0;
     while turn < 1125899906842624 {
-        if !play_some(&mut t, 1 + 1024 * turn) {
-            return;
+        if !play_some(&mut input, &mut output, &mut t, 1 + 1024 * turn)? {
+            return Ok(());
         }
         turn += 1;
     }
+    Ok(())
 }

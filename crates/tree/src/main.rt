@@ -4,32 +4,30 @@
 ghost use Rattle.std.specs.Prelude.{true, ◌≡◌};
 ghost use Rattle.plan.specs.Plan.{fits};
 
-use libc::STDOUT_FILENO;
 use plan::Plan;
+use std::io::{self, Write};
 use tables::Tables;
 
 // Grows the tree of a plan and prints its run.
-fn print_run(p: Plan)
+fn print_run<W: Write>(output: &mut W, p: Plan) -> io::Result<()>
     requires { fits p ≡ true }
 {
     let mut t = [0u8; Tables::BYTES];
     let mut log = [0u8; run::LOG];
     let u = run::grow(&mut t, &mut log, p);
-    let mut out = io::large_buffer();
+    let mut out = [0u8; 65536];
     let e = lines::put_steps(&mut out, &log, u.steps as usize);
-    if io::write_all(STDOUT_FILENO, &out[..e]) {
-        lines::say_end(u.steps, u.kills, u.zeros);
-    }
+    output.write_all(&out[..e])?;
+    lines::say_end(output, u.steps, u.kills, u.zeros)
 }
 
 // A line that names a plan has at most 13 bytes: 14 tell as much as all.
-fn main() {
+fn main(rt: HostRuntime) -> io::Result<()> {
     let mut line = [0u8; 14];
-    let n = lines::read_line(&mut line);
+    let n = lines::read_line(&mut rt.stdin(), &mut line)?;
     let p = plan::read_plan(&line[..n]);
     if p.levels == 0 {
-        io::write_all(STDOUT_FILENO, b"refused\n");
-        return;
+        return rt.stdout().write_all(b"refused\n");
     }
-    print_run(p);
+    print_run(&mut rt.stdout(), p)
 }

@@ -18,8 +18,11 @@ unfolding delivered deliver_task reply_sent
 returns-then-is_denied c = search was_true depth 20
 
 pub arrive-requires : goal.arrive-requires
-arrive-requires c =
-    let p = (c.requires.in_range, c.requires.fits_byte) in record { whole = search rules; in_range = p.0; fits_byte = p.1 (sym c.is_denied.ensures ∙ c.if-is_denied.false) }
+arrive-requires c = record {
+  whole = search rules;
+  in_range = c.requires.in_range;
+  fits_byte = c.requires.fits_byte (sym c.is_denied.ensures ∙ c.if-is_denied.false);
+}
 
 pub empty_slot-requires-2 : goal.empty_slot-requires-2
 unfolding delivered deliver_task reply_sent

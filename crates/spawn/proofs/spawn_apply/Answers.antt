@@ -6,8 +6,8 @@ use borrow.Author.Rules.{rules}
 use Rattle.spawn.proofs.spawn_apply.Goals as goal
 
 pub send_task-requires : goal.send_task-requires
-send_task-requires c = record { whole = search rules; counts = (spawn_room _ _ _ c.requires.taken).0; lowest = found_slot _ _ (sym c.lowest_empty.ensures ∙ c.s-1.given.1) }
+send_task-requires c = record { whole = search rules; counts = (spawn_room _ _ _ c.requires.taken).0; lowest = found_slot _ _ (sym c.in-At.ensures) }
 
 pub returns-in-Nothing : goal.returns-in-Nothing
 returns-in-Nothing c = absurd
-    (true≢false (sym (found_full _ (sym c.lowest_empty.ensures ∙ c.enum_told-1.given.1)) ∙ (spawn_room _ _ _ c.requires.taken).1))
+    (true≢false (sym (found_full _ (sym c.in-Nothing.ensures)) ∙ (spawn_room _ _ _ c.requires.taken).1))
