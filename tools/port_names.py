@@ -121,9 +121,9 @@ def renamed(own, functions, parts):
         if is_camel(n):
             out[n] = snake(n)
         elif "-" in n.strip("-") and re.match(r"^[\w'₀-₉]+(-[\w'₀-₉]+)+$", n):
-            parts = [snake(p) for p in n.split("-")]
-            text = parts[0]
-            for a, b in zip(parts, parts[1:]):
+            pieces = [snake(p) for p in n.split("-")]
+            text = pieces[0]
+            for a, b in zip(pieces, pieces[1:]):
                 text += ("-" if a in words and b in words and n not in parts else "_") + b
             if text != n:
                 out[n] = text

@@ -18,7 +18,7 @@ use Rattle.model.specs.Inv.Locals.{LocalLive, ReportedMost, Pending, Unreported,
 pub record InvBut (x : ℕ) (s : State) : Type 0 where
   -- Rows
   pub places : Places s
-  pub dead-places : DeadPlaces s
+  pub dead_places : DeadPlaces s
   pub task_ranges : TaskRanges s
   pub main_tasks : MainTasks s
   pub sent_tasks : SentTasks s
@@ -41,19 +41,19 @@ pub record InvBut (x : ℕ) (s : State) : Type 0 where
   pub waiting : Waiting s
   pub released : Released s
   pub lost : Lost s
-  pub dead-home : DeadHome s
+  pub dead_home : DeadHome s
   pub busy : Busy s
   pub waiters : Waiters s
   pub lost_tasks : LostTasks s
-  pub first-task : FirstTask s
-  pub first-lost : FirstLost s
+  pub first_task : FirstTask s
+  pub first_lost : FirstLost s
   pub blocked : Blocked s
   -- Messages
   pub tags : Tags s
   pub names_finish : NamesFinish s
-  pub names-task : NamesTask s
-  pub names-pair : NamesPair s
-  pub names-places : NamesPlaces s
+  pub names_task : NamesTask s
+  pub names_pair : NamesPair s
+  pub names_places : NamesPlaces s
   pub publishes : Publishes s
   pub published : Published s
   pub publish_once : PublishOnce s
@@ -65,10 +65,10 @@ pub record InvBut (x : ℕ) (s : State) : Type 0 where
   pub named_once : NamedOnce s
   pub named_publish : NamedPublish s
   pub named_transit : NamedTransit s
-  pub report-counts : ReportCounts s
+  pub report_counts : ReportCounts s
   pub report_book : ReportBook s
   pub release_some : ReleaseSome s
-  pub release-none : ReleaseNone s
+  pub release_none : ReleaseNone s
   pub ghosts : Ghosts s
   pub ghost_made : GhostMade s
   pub ghost_ends : GhostEnds s
@@ -92,12 +92,12 @@ pub record InvBut (x : ℕ) (s : State) : Type 0 where
   pub book_above : BookAbove s
   pub skipped : Skipped s
   -- Cells
-  pub cell-places : CellPlaces s
+  pub cell_places : CellPlaces s
   pub counted : Counted s
-  pub counted-denied : CountedDenied s
+  pub counted_denied : CountedDenied s
   pub no_answer : NoAnswer s
   pub marked : Marked s
-  pub asked-dead : AskedDead s
+  pub asked_dead : AskedDead s
   pub sent_from : SentFrom s
   pub sent_most : SentMost s
   pub not_from_self : NotFromSelf s
@@ -109,7 +109,7 @@ pub record InvBut (x : ℕ) (s : State) : Type 0 where
   pub pending : Pending s
   pub unreported : Unreported s
   pub reports_most : ReportsMost s
-  pub denied-dead : DeniedDead s
+  pub denied_dead : DeniedDead s
   pub local_book : LocalBook s
 
 -- There is no finish 0: the whole.

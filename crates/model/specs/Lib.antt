@@ -7,12 +7,6 @@ pub mod Effects
 pub mod Guards
 pub mod Step
 pub mod Inv
-pub mod Facts
-pub mod Steps
-pub mod Keeps
-pub mod Promises
+pub mod Quiet
 pub mod Reached
 pub mod Work
-pub mod Kept
-pub mod Adds
-pub mod Falls

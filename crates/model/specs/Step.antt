@@ -1,8 +1,7 @@
 -- The steps as a relation: one constructor for each rule, with the guards that a taken rule has passed. A new message takes any empty slot k.
 use Rattle.std.specs.Prelude.{◌≡◌, true, false, ℕ, ◌≤◌, ◌<◌}
 use Rattle.model.specs.State.{State}
-use Rattle.model.specs.Nesting.{Nearest}
-use Rattle.model.specs.Guards.{Runs, HasBook, Free, Full, MayRun, Repaired, Discarded}
+use Rattle.model.specs.Guards.{Runs, HasBook, Free, Full, MayRun, Repaired, NotDue, Unasked, NearestBook, Discarded}
 use Rattle.model.specs.Effects.Begin.{begun}
 use Rattle.model.specs.Effects.Spawn.{spawn_first, spawn_later}
 use Rattle.model.specs.Effects.Open.{open_finish}
@@ -44,18 +43,18 @@ pub data Settle (s : State) : State → Type 0 where
   -- adopt that is due
   adopts : (f : ℕ) → HasBook s f → s.books.due f ≡ 1 → Settle s (adopt s f)
   -- cancel of a dead place's column that is not all 0, adopt not due
-  cancels : (f v k i : ℕ) {s' : State} → HasBook s f → v < s.places → s.dead v ≡ true → s.books.due f ≡ 0 → 0 < s.books.live f i v
+  cancels : (f v k i : ℕ) {s' : State} → HasBook s f → v < s.places → s.dead v ≡ true → NotDue s f → 0 < s.books.live f i v
       → Closing (cancel s f v) f k s' → Settle s s'
   -- ask from a dead place to a live one, the cell not 0 and not asked, the book not under repair
   asks : (f v j k : ℕ) → HasBook s f → v < s.places → j < s.places → s.dead v ≡ true → s.dead j ≡ false
-      → 0 < s.books.live f v j → s.books.asked f v j ≡ false → Repaired s f → Free s k
+      → 0 < s.books.live f v j → Unasked s f v j → Repaired s f → Free s k
       → Settle s (ask s f v j k)
   -- deliver of a message that the store discards
   discards : (k : ℕ) → k < s.slots → Discarded s k → Settle s (empty s k)
   -- 1: home alive, finish publishing, book absent
   delivers_publish : (k q : ℕ) → Full s k 1 → s.dead (s.finishes.home (s.slot k).finish) ≡ false
       → s.finishes.status (s.slot k).finish ≡ 2 → s.books.present (s.slot k).finish ≡ 0
-      → Nearest s.finishes.parent s.books.present (s.finishes.parent (s.slot k).finish) q
+      → NearestBook s (s.slot k).finish q
       → Settle s (deliver_publish s k q)
   -- 2: home alive, finish publishing, task status 1
   delivers_published : (k : ℕ) → Full s k 2 → s.dead (s.finishes.home (s.slot k).finish) ≡ false

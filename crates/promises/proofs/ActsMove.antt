@@ -100,4 +100,4 @@ module _ (t : List ℕ) (good : Good t) where
 
   pub good_kills : (p : ℕ) → answer t (record_of (kill p)) ≡ 0 → Moved (Step.Kill (view t) p) (after t (record_of (kill p)))
   unfolding step
-  good_kills p e = by_step t (kill p) e (λ own. kill_moves (good_held t good) p own good.inv.status_made good.inv.blank_finishes good.inv.cell-places)
+  good_kills p e = by_step t (kill p) e (λ own. kill_moves (good_held t good) p own good.inv.status_made good.inv.blank_finishes good.inv.cell_places)

@@ -15,7 +15,7 @@ use Rattle.rules.specs.Refusals.{no_action, not_there, wrong_place, not_ready, m
 use Rattle.rules.specs.Quiet.{quiet}
 use Rattle.rules.specs.Sessions.{is_released}
 use Rattle.model.specs.Base.Cases.{bool_cases, and_none}
-use Rattle.model.specs.Promises.Progress.{quiet-released}
+use Rattle.model.proofs.Promises.Progress.{quiet-released}
 use Rattle.promises.specs.View.{view}
 use Rattle.promises.specs.Settling.{record_of}
 use Rattle.promises.proofs.Tests.{every_two}

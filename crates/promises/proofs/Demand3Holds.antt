@@ -17,7 +17,7 @@ use Rattle.rules.specs.Quiet.{is_running, running_tasks}
 use Rattle.rules.specs.Sessions.{is_busy, is_released, LiesIn, itself, nested}
 use Rattle.model.specs.Base.Cases.{bool_cases}
 use Rattle.model.specs.Nesting.{Under, here, up}
-use Rattle.model.specs.Promises.Release.{released_idle}
+use Rattle.model.proofs.Promises.Release.{released_idle}
 use Rattle.promises.specs.View.{view}
 use Rattle.promises.specs.Demand3.{Session, comes_to, Release, Demand3}
 use Rattle.promises.proofs.Tests.{one_of}

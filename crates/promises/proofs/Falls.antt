@@ -7,7 +7,7 @@ use Rattle.rules.specs.Action.{Action}
 use Rattle.rules.specs.Refusals.{answer}
 use Rattle.rules.specs.Step.{after}
 use Rattle.model.specs.Work.{work}
-use Rattle.model.specs.Falls.{settle_falls}
+use Rattle.model.proofs.Falls.{settle_falls}
 use Rattle.promises.specs.View.{view}
 use Rattle.promises.specs.Settling.{record_of, is_settling, Falls}
 use Rattle.promises.proofs.Good.{Good}

@@ -67,7 +67,7 @@ module _ {t : List ℕ} {a : State} (h : Held t a) where
       let r = finish_ranges t h.sound f (omega (arith, read_finishes_made s)) in
       record {
         number = f33;
-        home = omega (arith, r.home-place, read_home s f f0 f33, read_places s, places_most);
+        home = omega (arith, r.home_place, read_home s f f0 f33, read_places s, places_most);
         opener = omega (arith, r.opened, r.main.1, read_opener s f f0 f33, read_tasks_made s, tasks_most);
         parent = omega (arith, r.above, read_parent s f f0 f33);
       }

@@ -26,16 +26,16 @@ module _ {t : List ℕ} (good : Good t) (k : ℕ) (k128 : k < 128) where
 
     task : m.tag ≤ 6 → (0 < m.task) × (m.task < 256) × ((view t).tasks.maker m.task < 256)
     task h =
-        let n = good.inv.names-task k in_flight some h in
+        let n = good.inv.names_task k in_flight some h in
         omega (arith, n.0, n.1, (good.inv.task_ranges m.task n.0 n.1).5, tasks_below good)
 
     places : 3 ≤ m.tag → (m.from < 8) × (m.to < 8)
     places l = bool_cases (leb m.tag 6)
         (λ e.
         let h = leb-true m.tag 6 e in
-        let n = good.inv.names-task k in_flight some h in
-        omega (arith, good.inv.names-pair k in_flight l h, good.inv.task_ranges m.task n.0 n.1, places-below good))
-        (λ e. omega (arith, good.inv.names-places k in_flight (leb-false m.tag 6 e), places-below good))
+        let n = good.inv.names_task k in_flight some h in
+        omega (arith, good.inv.names_pair k in_flight l h, good.inv.task_ranges m.task n.0 n.1, places-below good))
+        (λ e. omega (arith, good.inv.names_places k in_flight (leb-false m.tag 6 e), places-below good))
 
     pub names : Names (view t) ((view t).slot k)
     names =

@@ -18,7 +18,7 @@ use Rattle.rules.specs.Messages.{is_empty, slot_place, from_slot}
 use Rattle.rules.specs.Quiet.{is_full, messages_in_flight, calm_book, quiet}
 use Rattle.rules.proofs.Taken.{not-not}
 use Rattle.model.specs.State.{State}
-use Rattle.model.specs.Promises.Quiet.{Quiet}
+use Rattle.model.specs.Quiet.{Quiet}
 use Rattle.promises.proofs.Tests.{not_true}
 use Rattle.promises.proofs.Rows.{read_places, read_dead}
 use Rattle.promises.proofs.Slots.{read_tag, read_slots}

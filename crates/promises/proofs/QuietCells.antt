@@ -14,8 +14,8 @@ use Rattle.rules.specs.Sessions.{is_open, survives, main_left}
 use Rattle.model.specs.Base.Cases.{bool_cases, eq_cases}
 use Rattle.model.specs.Base.Updates.{on_true, on_false, is₂, is₂_same, is₂_false}
 use Rattle.model.specs.Weights.{mainly, ended, weigh_in, weigh_out, weigh_off}
-use Rattle.model.specs.Facts.{unreleased}
-use Rattle.model.specs.Promises.Quiet.{quiet_cells}
+use Rattle.model.proofs.Facts.{unreleased}
+use Rattle.model.proofs.Promises.Quiet.{quiet_cells}
 use Rattle.promises.specs.View.{view}
 use Rattle.promises.proofs.Tests.{not_true}
 use Rattle.promises.proofs.Seen.{Seen}

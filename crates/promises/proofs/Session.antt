@@ -15,9 +15,9 @@ use Rattle.rules.specs.Sessions.{is_begin, takes_begin, no_begin, played}
 use Rattle.rules.proofs.Taken.{StepTaken, taken, not-not}
 use Rattle.model.specs.Base.Cases.{bool_cases, both}
 use Rattle.model.specs.Inv.{Inv}
-use Rattle.model.specs.Steps.Begin.{begin_holds}
-use Rattle.model.specs.Keeps.{move_keeps}
-use Rattle.model.specs.Promises.Stays.{released_stays}
+use Rattle.model.proofs.Steps.Begin.{begin_holds}
+use Rattle.model.proofs.Keeps.{move_keeps}
+use Rattle.model.proofs.Promises.Stays.{released_stays}
 use Rattle.promises.specs.View.{view}
 use Rattle.promises.proofs.Tests.{not_both}
 use Rattle.promises.proofs.Rows.{read_places}

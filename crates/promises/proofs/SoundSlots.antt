@@ -16,7 +16,7 @@ use Rattle.rules.specs.Sound.{message_fits, slot_sound}
 use Rattle.model.specs.Base.Updates.{on-cases, is₂, is₂_same}
 use Rattle.model.specs.State.{Message}
 use Rattle.model.specs.Inv.{Inv}
-use Rattle.model.specs.Facts.InFlight.{tallied_ge}
+use Rattle.model.proofs.Facts.InFlight.{tallied_ge}
 use Rattle.promises.specs.View.{view}
 use Rattle.promises.proofs.Rows.{read_places, read_tasks_made, read_finishes_made}
 use Rattle.promises.proofs.Slots.{counts_at, read_message, read_tag}
@@ -65,26 +65,26 @@ module _ (t : List ℕ) (good : Good t) (k : ℕ) (k128 : k < 128) where
       (λ e. rw e (moves (omega arith) (omega arith)))
       (λ e. rw e (moves (omega arith) (omega arith)))
       (λ e. rw e (moves (omega arith) (omega arith)))
-      (λ e. rw e (named (omega arith) (ltb m.from ps ∷ []) (lt-ltb m.from ps (inv.names-places k range (omega arith)).0, tt)))
+      (λ e. rw e (named (omega arith) (ltb m.from ps ∷ []) (lt-ltb m.from ps (inv.names_places k range (omega arith)).0, tt)))
       (λ e. rw e (named (omega arith) [] tt))
       (λ e. let r = ghost_named e in rw e (named (omega arith) (leb 1 m.number ∷ leb m.number fs ∷ []) (le-leb 1 m.number r.0, (le-leb m.number fs r.1, tt))))
       (λ e. rw e (asks (omega arith)))
       (λ e. rw e (asks (omega arith)))
     where
       waits : 1 ≤ m.tag → m.tag ≤ 2 → message_fits ps ts fs (publish m.finish m.task) ≡ true
-      waits l h = let n = inv.names-task k range l (omega arith) in
+      waits l h = let n = inv.names_task k range l (omega arith) in
           named l (leb 1 m.task ∷ leb m.task ts ∷ []) (le-leb 1 m.task n.0, (le-leb m.task ts n.1, tt))
 
       moves : 3 ≤ m.tag → m.tag ≤ 6 → message_fits ps ts fs (transit m.finish m.task m.from m.to) ≡ true
       moves l h =
-          let n = inv.names-task k range (omega arith) h in
-          let p = inv.names-pair k range l h in
+          let n = inv.names_task k range (omega arith) h in
+          let p = inv.names_pair k range l h in
           let r = inv.task_ranges m.task n.0 n.1 in
           named (omega arith) (leb 1 m.task ∷ leb m.task ts ∷ ltb m.from ps ∷ ltb m.to ps ∷ [])
           (le-leb 1 m.task n.0, (le-leb m.task ts n.1, (lt-ltb m.from ps (omega arith), (lt-ltb m.to ps (omega arith), tt))))
 
       asks : 10 ≤ m.tag → message_fits ps ts fs (dropped m.finish m.task m.from m.to m.number) ≡ true
-      asks l = let p = inv.names-places k range (omega arith) in
+      asks l = let p = inv.names_places k range (omega arith) in
           named (omega arith) (ltb m.from ps ∷ ltb m.to ps ∷ []) (lt-ltb m.from ps p.0, (lt-ltb m.to ps p.1, tt))
 
   pub slot_sound_lem : slot_sound (Fields.places t) (Fields.tasks_made t) (Fields.finishes_made t) (drop (13056 + 16 * k) t) k ≡ true

@@ -55,11 +55,11 @@ module _ (t : List ℕ) (good : Good t) where
       )
     where
       marks : (p : ℕ) → marked (dead_mask t) p ≡ true → p < places t
-      marks p e = omega (arith, read_places s, inv.dead-places p (sym (read_dead s p) ∙ e))
+      marks p e = omega (arith, read_places s, inv.dead_places p (sym (read_dead s p) ∙ e))
 
       even : dead_mask t % 2 ≡ 0
       even = eq_cases (dead_mask t % 2) 1
-          (λ e. absurd (omega (arith, inv.dead-places 0 (sym (read_dead s 0) ∙ odd (dead_mask t) e))))
+          (λ e. absurd (omega (arith, inv.dead_places 0 (sym (read_dead s 0) ∙ odd (dead_mask t) e))))
           (λ n. omega arith)
 
   task-sound : (j : ℕ) → j < tasks_made t → task_sound (places t) (finishes_made t) (drop (8 + 8 * j) t) (1 + j) ≡ true

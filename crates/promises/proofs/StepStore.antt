@@ -24,7 +24,7 @@ use Rattle.model.specs.Base.Cases.{bool_cases}
 use Rattle.model.specs.Base.Updates.{upd, upd_same}
 use Rattle.model.specs.State.{State}
 use Rattle.model.specs.Messages
-use Rattle.model.specs.Guards.{Repaired, Discarded, publish-lost, transit-lost, report-lost, ghost_lost, answer-lost}
+use Rattle.model.specs.Guards.{Repaired, Discarded, publish_lost, transit_lost, report_lost, ghost_lost, answer_lost}
 use Rattle.model.specs.Effects.Closing.{Closing}
 use Rattle.model.specs.Effects.Deliver
 use Rattle.model.specs.Effects.Deliver.{empty}
@@ -91,7 +91,7 @@ module _ {t : List ℕ} {a : State} (h : Held t a) (k : ℕ) (taken : StepTaken 
       let own = finish_fits_lem h f made.0 made.1 in
       let is_dead : dead t (home t f) ≡ a.dead (a.finishes.home (a.slot k).finish) = ap (dead t) (read_home s f f0 f33) ∙ read_dead s (a.finishes.home f) ∙ rw is_finish refl in
       bool_cases (dead t (home t f))
-      (λ d. thrown (publish-lost e (sym is_dead ∙ d)) (publish f x) m d)
+      (λ d. thrown (publish_lost e (sym is_dead ∙ d)) (publish f x) m d)
       (λ d. let g = goes h k taken (publish f x) m d in
       let w = every_each _ g.fit in
       let q = nearest t 32 (a.finishes.parent f) in
@@ -113,7 +113,7 @@ module _ {t : List ℕ} {a : State} (h : Held t a) (k : ℕ) (taken : StepTaken 
       let v8 = place_in h k taken v r.1.0 in
       let j8 = place_in h k taken j r.1.1 in
       bool_cases (discarded t (transit f x v j))
-      (λ d. thrown (transit-lost e (lost v (a.slot k).from (sym is-from) d)) (transit f x v j) m d)
+      (λ d. thrown (transit_lost e (lost v (a.slot k).from (sym is-from) d)) (transit f x v j) m d)
       (λ d. let g = goes h k taken (transit f x v j) m d in
       let o = neither (dead t v) (book_absent t f) d in
       let lives : a.dead (a.slot k).from ≡ false = rw is-from (sym (read_dead s v) ∙ o.0) in
@@ -130,7 +130,7 @@ module _ {t : List ℕ} {a : State} (h : Held t a) (k : ℕ) (taken : StepTaken 
       let c = counts_at t k in
       let v8 = place_in h k taken v (ranges h k taken (report f v (counts_at t k)) m).1 in
       bool_cases (discarded t (report f v (counts_at t k)))
-      (λ d. thrown (report-lost e (lost v (a.slot k).from (sym is-from) d)) (report f v (counts_at t k)) m d)
+      (λ d. thrown (report_lost e (lost v (a.slot k).from (sym is-from) d)) (report f v (counts_at t k)) m d)
       (λ d. let g = goes h k taken (report f v (counts_at t k)) m d in
       let o = neither (dead t v) (book_absent t f) d in
       let end = closed (tie_report s k (k_there h k taken) f is_finish f0 f33 v e is-from v8) (bytes_emptied (bytes_lowered h.bytes s.whole f v f0 f33 (counts_at t k)) k) (adopted_mark o.1) emptied in
@@ -174,7 +174,7 @@ module _ {t : List ℕ} {a : State} (h : Held t a) (k : ℕ) (taken : StepTaken 
       let v8 = place_in h k taken v r.1.0 in
       let j8 = place_in h k taken j r.1.1 in
       bool_cases (discarded t (dropped f x v j n))
-      (λ d. thrown (answer-lost e (lost j (a.slot k).to (sym is-to) d)) (dropped f x v j n) m d)
+      (λ d. thrown (answer_lost e (lost j (a.slot k).to (sym is-to) d)) (dropped f x v j n) m d)
       (λ d. let g = goes h k taken (dropped f x v j n) m d in
       let o = neither (dead t j) (book_absent t f) d in
       let end = closed (tie_dropped s k (k_there h k taken) f is_finish f0 f33 v j n e is-from is-to is_number v8 j8)

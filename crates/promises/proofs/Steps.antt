@@ -56,7 +56,7 @@ module _ {t : List ℕ} {a : State} (h : Held t a) (inv : Inv a) where
   action_moves (open_finish k) q n own = open_moves h k own
   action_moves (end k) q n own = moved_by (λ _ m. ends k m) (end_moves h k own)
   action_moves (deliver k) q n own = moved_by (λ _ m. settles m) (deliver_moves h k own)
-  action_moves (kill p) q n own = moved_by (λ _ m. loses p m) (kill_moves h p own inv.status_made inv.blank_finishes inv.cell-places)
+  action_moves (kill p) q n own = moved_by (λ _ m. loses p m) (kill_moves h p own inv.status_made inv.blank_finishes inv.cell_places)
   action_moves (adopt f) q n own = moved_by (λ _ m. settles m) (adopt_moves h f own)
   action_moves (cancel f v) q n own = moved_by (λ _ m. settles m) (cancel_moves h f v own)
   action_moves (ask f v j) q n own = moved_by (λ _ m. settles m) (ask_moves h f v j own)

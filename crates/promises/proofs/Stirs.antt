@@ -20,7 +20,7 @@ use Rattle.rules.specs.Refusals.{no_action, not_there, wrong_place, not_ready, m
 use Rattle.rules.proofs.Taken.{neither}
 use Rattle.model.specs.Base.Cases.{bool_cases, both, and_none}
 use Rattle.model.specs.State
-use Rattle.model.specs.Promises.Stirs.{Waits, stays_open}
+use Rattle.model.proofs.Promises.Stirs.{Waits, stays_open}
 use Rattle.promises.specs.View.{view}
 use Rattle.promises.specs.Settling.{is_settling, Stirring, Stirs}
 use Rattle.promises.proofs.Tests.{every_two}
@@ -92,7 +92,7 @@ module _ {t : List ℕ} (good : Good t) where
     unfolding no_room closing_sends every
     sends_none v waits f0 f33 present died settled =
         let f = m.finish in
-        let v8 : v < 8 = omega (arith, (good.inv.dead-places v died).1, places-below good) in
+        let v8 : v < 8 = omega (arith, (good.inv.dead_places v died).1, places-below good) in
         bool_cases (closes (book_of (cancelled t m.finish v) m.finish))
         (λ c. absurd (stays_open (view t) good.inv k (in_flight good k k128) f refl present v died settled waits (book_closes (read_book (tie_cancelled s f v f0 f33 v8) f f0 f33) c)))
         (λ c. rw c refl)

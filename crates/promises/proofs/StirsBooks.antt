@@ -36,7 +36,7 @@ module _ {t : List ℕ} (good : Good t) where
   -- a dead place is in the session
   dead_inside : (v : ℕ) → dead t v ≡ true → in_session t v ≡ true
   unfolding in_session
-  dead_inside v e = lt-ltb v (places t) (omega (arith, (good.inv.dead-places v (sym (read_dead s v) ∙ e)).1, read_places s))
+  dead_inside v e = lt-ltb v (places t) (omega (arith, (good.inv.dead_places v (sym (read_dead s v) ∙ e)).1, read_places s))
 
   module _ (f : ℕ) (f0 : 0 < f) (f33 : f < 33) (there : book_absent t f ≡ false) where
     pub is_present : (view t).books.present f ≡ 1

@@ -18,7 +18,7 @@ use Rattle.rules.proofs.Taken.{not-not, slot_there}
 use Rattle.model.specs.Base.Cases.{eq_cases}
 use Rattle.model.specs.Guards.{Runs}
 use Rattle.model.specs.Inv.{Inv}
-use Rattle.model.specs.Promises.Wanted
+use Rattle.model.proofs.Promises.Wanted
 use Rattle.promises.specs.View.{view}
 use Rattle.promises.proofs.Seen.{Seen}
 use Rattle.promises.proofs.Rows.{read_task_at, read_task_finish, read_task_sent, read_opener, read_finish_status}

@@ -20,8 +20,8 @@ use Rattle.model.specs.Base.Cases.{eq_cases}
 use Rattle.model.specs.State
 use Rattle.model.specs.Guards.{Full, MayRun}
 use Rattle.model.specs.Inv.{Inv}
-use Rattle.model.specs.Promises.Wanted.{publish_wanted, published_wanted, answer_wanted, task_wanted, report_wanted, release_wanted, count_dropped_wanted, dropped_wanted}
-use Rattle.model.specs.Promises.Ranges.{transit_room, task_room}
+use Rattle.model.proofs.Promises.Wanted.{publish_wanted, published_wanted, answer_wanted, task_wanted, report_wanted, release_wanted, count_dropped_wanted, dropped_wanted}
+use Rattle.model.proofs.Promises.Ranges.{transit_room, task_room}
 use Rattle.promises.specs.View.{view}
 use Rattle.promises.proofs.Seen.{Seen}
 use Rattle.promises.proofs.Rows.{read_dead, read_task_status, read_task_maker, read_home, read_opener, read_finish_status}

@@ -9,14 +9,14 @@ use Rattle.model.specs.State.{State}
 use Rattle.model.specs.Step.{Spawn, spawns_first, spawns_later, End, Kill, kills, Settle, ends}
 use Rattle.model.specs.Guards.{Runs}
 use Rattle.model.specs.Inv.{Inv}
-use Rattle.model.specs.Keeps.{move_keeps}
+use Rattle.model.proofs.Keeps.{move_keeps}
 use Rattle.model.specs.Work.{work, ended_tasks}
-use Rattle.model.specs.Kept.{Kept}
-use Rattle.model.specs.Falls.{settle_falls}
-use Rattle.model.specs.Falls.Kept.{settle_kept}
-use Rattle.model.specs.Adds.Acts.{spawn_adds, end_adds}
-use Rattle.model.specs.Adds.Kill.{kill_adds}
-use Rattle.model.specs.Adds.Tasks.{kept_ended, ended_most, end_kept, end_ended, spawn_tasks, kill_tasks}
+use Rattle.model.proofs.Kept.{Kept}
+use Rattle.model.proofs.Falls.{settle_falls}
+use Rattle.model.proofs.Falls.Kept.{settle_kept}
+use Rattle.model.proofs.Adds.Acts.{spawn_adds, end_adds}
+use Rattle.model.proofs.Adds.Kill.{kill_adds}
+use Rattle.model.proofs.Adds.Tasks.{kept_ended, ended_most, end_kept, end_ended, spawn_tasks, kill_tasks}
 use Rattle.plan.specs.Tree.{level_of, children_of, tree_size}
 use Rattle.growth.specs.Grown.{Grown, grown_room, grown_same, grown_more}
 use Rattle.plan.specs.declared.Plan.{Plan}

@@ -58,7 +58,7 @@ pub record TaskRanges (t : List ℕ) (k : ℕ) : Type 0 where
 
 -- finish f; its main task is byte 5 of its row
 pub record FinishRanges (t : List ℕ) (f : ℕ) : Type 0 where
-  pub home-place : home t f < places t
+  pub home_place : home t f < places t
   pub opened : opener t f < byte t (place (finish_row f) 5)
   pub above : parent t f < f
   pub status : Made 5 (finish_status t f)
@@ -97,7 +97,7 @@ unfolding finish_fits
 finish_tells t f e =
     let h = every_each _ e in
     record {
-      home-place = ltb-true _ _ h.0;
+      home_place = ltb-true _ _ h.0;
       opened = ltb-true _ _ h.1.0;
       above = ltb-true _ _ h.1.1.0;
       status = (leb-true _ _ h.1.1.1.0, leb-true _ _ h.1.1.1.1.0);

@@ -125,7 +125,7 @@ module _ (t : List ℕ) (s : ℕ) (ok : (sound t ≡ true) × (s < 128)) where
   publish_in f k e = finish_in f (publish_range f k e)
 
   pub publish-home : (f k : ℕ) → message_at t s ≡ publish f k → home t f < 8
-  publish-home f k e = omega (arith, (finish_ranges t ok.0 f (publish_range f k e)).home-place, few.0)
+  publish-home f k e = omega (arith, (finish_ranges t ok.0 f (publish_range f k e)).home_place, few.0)
 
   pub transit_in : (f k v j : ℕ) → message_at t s ≡ transit f k v j → ((1 ≤ f) × (f ≤ 32)) × ((v < 8) × (j < 8))
   transit_in f k v j e = let r = ranges_of (transit f k v j) e in (finish_in f r.0.0, places_in v j r.1)

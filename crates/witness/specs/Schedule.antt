@@ -80,7 +80,7 @@ pub record Witness : Type 0 where
   pub begun : takes_begin zero_tables first ≡ true
   pub alone : no_begin (after zero_tables first) whole ≡ true
   pub taken : all_taken (after zero_tables first) whole ≡ true
-  pub place-lost : dead (at lost) 1 ≡ true
+  pub place_lost : dead (at lost) 1 ≡ true
   pub adopted : is_adopted (at ghosted) 2 ≡ 1
   pub is_ghost : ghost_byte (at ghosted) 1 0 ≡ 2
   pub reply : byte (at replied) (place (slot_row 0) 0) ≡ 11

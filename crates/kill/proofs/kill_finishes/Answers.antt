@@ -1,0 +1,18 @@
+use Prim.Native.Nat.{◌≤◌, ◌-◌}
+use mathlib.Core.Path.{◌≡◌}
+use lib.ListN.{length}
+use Rattle.rules.specs.Kill.{kill_finish}
+use Rattle.tables.specs.Walks.{change_parts}
+use Rattle.tables.proofs.Changes.{change_none, change_done}
+use Rattle.kill.proofs.Turns.{finishes_more}
+use borrow.Author.Rules.{rules}
+use Rattle.kill.proofs.kill_finishes.Goals as goal
+
+pub loop-j-init : goal.loop-j-init
+loop-j-init c = (search rules, (search rules, search (rules, change_none)))
+
+pub loop-j-preserved : goal.loop-j-preserved
+loop-j-preserved c = (search rules, (search rules, search (rules, finishes_more)))
+
+pub returns : goal.returns
+returns c = search (rules, change_done)

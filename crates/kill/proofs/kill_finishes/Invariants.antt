@@ -1,0 +1,15 @@
+use Prim.Native.Nat.{◌≤◌, ◌-◌}
+use mathlib.Core.Path.{◌≡◌}
+use lib.ListN.{length}
+use Rattle.rules.specs.Kill.{kill_finish}
+use Rattle.tables.specs.Walks.{change_parts}
+use Rattle.tables.proofs.Changes.{change_none, change_done}
+use Rattle.kill.proofs.Turns.{finishes_more}
+use borrow.Author.Rules.{rules}
+use Rattle.kill.proofs.kill_finishes.Given as goal
+
+abbrev pub invariant-loop-j : goal.invariant-loop-j
+invariant-loop-j l = (l.j ≤ l.n) × ((length l.t ≡ length l.initial.t) × (l.t ≡ change_parts (kill_finish l.p) 8 1 l.j 2048 l.initial.t))
+
+abbrev pub decreases-loop-j : goal.decreases-loop-j
+decreases-loop-j l = l.n - l.j

@@ -1,0 +1,5 @@
+use borrow.Author.Rules.{rules}
+use Rattle.kill.proofs.mark_dead.Goals as goal
+
+pub returns : goal.returns
+returns c = rw c.with_mark.ensures
