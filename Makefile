@@ -14,7 +14,7 @@ test:
 	@tests/gate.sh
 
 bench:
-	@. tests/machine.sh && rt staticlib finish >/dev/null && bench/run.sh target/staticlib/libfinish.a
+	@. tests/machine.sh && tests/build.sh libfinish.a && bench/run.sh target/staticlib/libfinish.a
 
 soak:
-	@. tests/machine.sh && rt staticlib finish >/dev/null && tests/soak.sh target/staticlib/libfinish.a
+	@. tests/machine.sh && tests/build.sh libfinish.a && tests/soak.sh target/staticlib/libfinish.a

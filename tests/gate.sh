@@ -9,15 +9,20 @@ command -v rt >/dev/null || { echo "gate: the Rattle toolchain (rt) is not on th
 log=$(mktemp)
 trap 'rm -f "$log"' EXIT
 
-rt fmt --check
 rt ci >"$log" 2>&1 || { cat "$log" >&2; exit 1; }
+# An edit that cannot be applied or read says nothing, and rt ci passes over it.
+if grep -q '^rt: ok.*, [0-9]* bad' "$log"; then
+    cat "$log" >&2
+    echo "gate: a must-fail edit is bad" >&2
+    exit 1
+fi
 sed '$d' "$log"
 
 . tests/machine.sh
+tests/build.sh replay tree libfinish.a
 tests/printed.sh
 tests/tree.sh
 tests/tree/planted.sh
-rt staticlib finish
 lib=target/staticlib/libfinish.a
 tests/compare/check.sh "$lib"
 tests/compare/planted.sh

@@ -8,8 +8,6 @@ cd "$(dirname "$0")/.."
 program=${1:?"play.sh PROGRAM"}
 . tests/machine.sh
 [ -x "target/bin/$program" ] || echo "proving and building the program $program: some minutes, the first time" >&2
-log=$(mktemp)
-trap 'rm -f "$log"' EXIT
-rt check "$program" </dev/null >"$log" 2>&1 || { cat "$log" >&2; exit 1; }
+tests/build.sh "$program"
 read -ra run <<<"$RUN"
 "${run[@]}" "target/bin/$program"

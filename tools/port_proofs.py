@@ -239,7 +239,7 @@ class Function:
             labels = self.labels(self.fn, "ensures")
         if len(labels) > 1:
             body = re.sub(r"let p = \((c\.requires\.\w+), (c\.requires\.\w+)\) in(.*)$", lambda m: m.group(3).replace("p.0", m.group(1)).replace("p.1", m.group(2)), body, flags=re.S)
-            head, tail = re.match(r"(?s)(.*\bin\b)?(.*)$", body).groups()
+            head, tail = re.match(r"(?s)(.*(?<![\w.-])in(?![\w-]))?(.*)$", body).groups()
             parts = flat(tail.strip(), len(labels))
             if parts:
                 inner = "; ".join(f"{l} = {p}" for l, p in zip(labels, parts))

@@ -16,8 +16,7 @@ use tables::Tables;
 const NO_READING: u32 = 4294967295;
 
 // Takes the step of a record, or refuses it and changes nothing; answers 0 or the number that refuses.
-#[unsafe(no_mangle)]
-pub extern "C" fn finish_step(t: &mut [u8], action: &[u8]) -> u32
+pub fn finish_step(t: &mut [u8], action: &[u8]) -> u32
     ensures { (result ≡ answer t.old action.now) × (t.new ≡ after t.old action.now) }
 {
     if t.len() != Tables::BYTES {
@@ -44,8 +43,7 @@ pub fn step_at(t: &mut [u8], schedule: &[u8], at: usize) -> u32
 }
 
 // Begins a session of so many places; the tables need not be sound.
-#[unsafe(no_mangle)]
-pub extern "C" fn finish_begin(t: &mut [u8], places: u32) -> u32
+pub fn finish_begin(t: &mut [u8], places: u32) -> u32
     ensures { (result ≡ answer t.old (9 ∷ places ∷ 0 ∷ 0 ∷ [])) × (t.new ≡ after t.old (9 ∷ places ∷ 0 ∷ 0 ∷ [])) }
 {
     if t.len() != Tables::BYTES {
@@ -55,8 +53,7 @@ pub extern "C" fn finish_begin(t: &mut [u8], places: u32) -> u32
 }
 
 // How many tasks run.
-#[unsafe(no_mangle)]
-pub extern "C" fn finish_running_tasks(t: &[u8]) -> u32
+pub fn finish_running_tasks(t: &[u8]) -> u32
     ensures { result ≡ reading t.now (running_tasks t.now) }
 {
     if t.len() != Tables::BYTES {
@@ -66,8 +63,7 @@ pub extern "C" fn finish_running_tasks(t: &[u8]) -> u32
 }
 
 // How many messages are in flight.
-#[unsafe(no_mangle)]
-pub extern "C" fn finish_messages_in_flight(t: &[u8]) -> u32
+pub fn finish_messages_in_flight(t: &[u8]) -> u32
     ensures { result ≡ reading t.now (messages_in_flight t.now) }
 {
     if t.len() != Tables::BYTES {
@@ -90,8 +86,7 @@ fn status_of(t: &[u8], finish: u32) -> u32
     fields::finish_byte(t, finish as u8, 3) as u32
 }
 
-#[unsafe(no_mangle)]
-pub extern "C" fn finish_status(t: &[u8], finish: u32) -> u32
+pub fn finish_status(t: &[u8], finish: u32) -> u32
     ensures { result ≡ reading t.now (status_of t.now finish) }
 {
     if t.len() != Tables::BYTES {
@@ -111,8 +106,7 @@ fn quiet_one(t: &[u8]) -> u32
 }
 
 // 1 where the session is quiet, 0 where it is not.
-#[unsafe(no_mangle)]
-pub extern "C" fn finish_quiet(t: &[u8]) -> u32
+pub fn finish_quiet(t: &[u8]) -> u32
     ensures { result ≡ reading t.now (digit (quiet t.now)) }
 {
     if t.len() != Tables::BYTES {

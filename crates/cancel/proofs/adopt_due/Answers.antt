@@ -1,0 +1,5 @@
+use borrow.Author.Rules.{rules}
+use Rattle.cancel.proofs.adopt_due.Goals as goal
+
+pub returns : goal.returns
+returns c = rw c.book_byte.ensures

@@ -1,0 +1,12 @@
+use Rattle.rules.specs.Messages.{bytes_of, send}
+use borrow.Author.Rules.{rules}
+use Rattle.closing.proofs.end_ghost.Goals as goal
+
+pub returns : goal.returns
+unfolding send bytes_of
+returns c =
+    rw (
+      c.put_message.ensures,
+      c.clear_rows.ensures,
+      c.book_byte-q.ensures,
+    )
