@@ -35,10 +35,8 @@ fn short_record<W: Write>(out: &mut W) -> io::Result<()> {
 fn main(rt: HostRuntime) -> io::Result<()> {
     let mut out = rt.stdout();
     let mut t = [0u8; 15104];
-    let mut i: u32 = 0;
-    while i < script::STEPS {
+    for i in 0..script::STEPS {
         step(&mut out, &mut t, i)?;
-        i += 1;
     }
     short_tables(&mut out)?;
     short_record(&mut out)

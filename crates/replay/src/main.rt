@@ -55,12 +55,10 @@ fn main(rt: HostRuntime) -> io::Result<()> {
     let mut input = rt.stdin();
     let mut output = rt.stdout();
     let mut t = [0u8; 15104];
-    let mut turn: u64 = 0;
-    while turn < 1125899906842624 {
+    for turn in 0..1125899906842624u64 {
         if !play_some(&mut input, &mut output, &mut t, 1 + 1024 * turn)? {
             return Ok(());
         }
-        turn += 1;
     }
     Ok(())
 }

@@ -1,0 +1,7 @@
+use Rattle.turns.specs.Played.{played_on}
+use borrow.Author.Rules.{rules}
+use Rattle.turns.proofs.play.Goals as goal
+
+pub returns : goal.returns
+unfolding played_on
+returns c = (rw c.finish_step-answer.ensures.0, c.finish_step-answer.ensures.1)
