@@ -33,10 +33,10 @@ pub record Lives (p : Plan) (n : ℕ) (s : State) : Type 0 where
   pub grown : Grown p.levels p.width s.tasks.maker s.tasks.made
   pub budget : n + steps_left p s ≤ 2089
 
-killed_lived : {s s' : State} {v : ℕ} → Kill s v s' → s.dead v ≡ false
+killed_lived : {s : State} {v : ℕ} {s' : State} → Kill s v s' → s.dead v ≡ false
 killed_lived (kills a b c) = c
 
-spawner-runs : {s s' : State} {k v : ℕ} → Spawn s k v s' → Runs s k
+spawner-runs : {s : State} {k v : ℕ} {s' : State} → Spawn s k v s' → Runs s k
 spawner-runs (spawns_first k a b c d e g h) = a
 spawner-runs (spawns_later k a b c d e) = a
 

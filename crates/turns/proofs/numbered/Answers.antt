@@ -21,7 +21,7 @@ unfolding most_of
 overflow_cast-result-in-7 c = let h = rw c.in-7.is at c.requires in record { fits = omega arith }
 
 pub overflow_cast-result-in_default : goal.overflow_cast-result-in_default
-overflow_cast-result-in_default c = let h = ask_most _ _ c.in_default.rest.0.0.1 c.in_default.rest.0.1 c.in_default.rest.1 c.requires in record { fits = omega arith }
+overflow_cast-result-in_default c = let h = ask_most _ _ (search rules) (search rules) (search rules) c.requires in record { fits = omega arith }
 
 pub returns-in-4 : goal.returns-in-4
 returns-in-4 c = rw c.in-4.is (is_deliver _)
@@ -33,4 +33,4 @@ pub returns-in-7 : goal.returns-in-7
 returns-in-7 c = rw c.in-7.is (is_cancel _)
 
 pub returns-in_default : goal.returns-in_default
-returns-in_default c = is_ask _ _ c.in_default.rest.0.0.1 c.in_default.rest.0.1 c.in_default.rest.1
+returns-in_default c = is_ask _ _ (search rules) (search rules) (search rules)

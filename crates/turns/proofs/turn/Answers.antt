@@ -39,9 +39,6 @@ returns-then-delivery-ne0 c =
     (goes_on_lem _ _ (repair_chooses _) _ _ c.repair-repair.ensures c.if-repair-ne0.false (after-repair _) _ _
     (stops _ _ (kind_chooses 4 _ _) _ _ c.lowest_taken-delivery.ensures c.if-delivery-ne0.true _))
 
-pub act-requires : goal.act-requires
-act-requires c = record { whole = omega (arith, c.t-3-1.given, c.t-2-1.given, c.t-1.given, c.requires.whole); playable = c.requires.playable }
-
 pub returns : goal.returns
 unfolding turn_record records_of
 returns c =
