@@ -1,5 +1,5 @@
 #!/usr/bin/env bash
-# The whole gate: everything proved from nothing, then what is run: the printed run, the trees, the comparison with the second
+# The whole gate: everything proved, then what is run: the printed run, the trees, the comparison with the second
 # program, the planted differences, the host. The last line is rt ci's own, 'N passed, 0 failed', and it is printed only if everything passed.
 set -euo pipefail
 cd "$(dirname "$0")/.."

@@ -1,6 +1,6 @@
 -- The answer to an action and the tables after it, where the tables and the record have their lengths: 1 and 8 come before the
 -- step's own refusals.
-use Rattle.std.specs.Prelude.{Bool, true, false, cond, List, [], ◌∷◌, ℕ, eqb, leb}
+use Rattle.std.specs.Prelude.{Bool, true, false, cond, List, ◌∷◌, ℕ, eqb, leb}
 use Rattle.rules.specs.Action.{Action}
 use Rattle.rules.specs.Refusals.{refuse, first_of, no_action, unsound, step_refusals}
 use Rattle.rules.specs.Step.{step}

@@ -60,7 +60,7 @@ pub fn count_dropped(t: &mut [u8], s: usize, f: u8, k: u8, v: u8, j: u8, n: u8) 
     requires whole { Whole t.old }
     requires slot_there { s < 128 }
     requires in_range { ((1 ≤ f) × (f ≤ 32)) × ((v < 8) × (j < 8)) }
-    requires fits_byte { received t.old f j v ≤ n }
+    requires covered { received t.old f j v ≤ n }
     ensures { (t.new ≡ delivered t.old s (count_dropped f k v j n)) × (result ≡ reply_sent t.old s (count_dropped f k v j n)) }
 {
     let got = counts::received_at(t, f, j, v);

@@ -2,7 +2,7 @@
 // those that say a last incomplete record and the end.
 #![tactic(auto)]
 
-ghost use Rattle.std.specs.Prelude.{◌≡◌, ◌+◌, ◌*◌, ◌^◌, ◌≤◌, ◌<◌, length, IfOk};
+ghost use Rattle.std.specs.Prelude.{◌≡◌, ◌+◌, ◌*◌, ◌^◌, ◌≤◌, ◌<◌, length, IfOk, OnErr};
 ghost use Rattle.io.specs.Counts.{IsPrefixLen};
 ghost use Rattle.tables.specs.Bytes.{write};
 ghost use Rattle.lines.specs.Lines.{word, record_line, step_line, step_lines};
@@ -73,7 +73,8 @@ pub fn put_steps(out: &mut [u8], log: &[u8], n: usize) -> usize
 // Reads a line, byte by byte, so that nothing after it is read: up to its newline, which is left out, or to the end of the input, or as
 // many bytes as the buffer holds. Answers how many there are.
 pub fn read_line<R: Read>(input: &mut R, line: &mut [u8]) -> io::Result<usize>
-    ensures { IfOk result (λ n. IsPrefixLen n line.new) }
+    ensures ok { IfOk result (λ n. IsPrefixLen n line.new) }
+    ensures err { OnErr result (length line.new ≡ length line.old) }
 {
     for n in 0..line.len() {
         let mut one = [0u8; 1];
@@ -90,7 +91,8 @@ pub fn read_line<R: Read>(input: &mut R, line: &mut [u8]) -> io::Result<usize>
 
 // Reads until the buffer is full or the input ends, and answers how many bytes there are.
 pub fn read_full<R: Read>(input: &mut R, buf: &mut [u8]) -> io::Result<usize>
-    ensures { IfOk result (λ n. IsPrefixLen n buf.new) }
+    ensures ok { IfOk result (λ n. IsPrefixLen n buf.new) }
+    ensures err { OnErr result (length buf.new ≡ length buf.old) }
 {
     let mut n: usize = 0;
     while n < buf.len() {

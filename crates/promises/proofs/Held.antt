@@ -4,7 +4,7 @@ use mathlib.Core.Bool.{true}
 use mathlib.Core.List.{List}
 use Prim.Native.Nat.{ℕ, ◌≤◌, ◌<◌}
 use native.Mathlib.Omega.{arith}
-use Rattle.rules.specs.Fields.{places, home, opener, parent, present, task_made, finish_made}
+use Rattle.rules.specs.Fields.{task_made, finish_made}
 use Rattle.rules.specs.Sound.{sound}
 use Rattle.sound.proofs.Use
 use Rattle.sound.proofs.Use.{places_range, finishes_most, task_ranges, finish_ranges, book_ranges, slot_finish}

@@ -11,7 +11,6 @@ use Rattle.tables.specs.Bytes.{byte, part}
 use Rattle.tables.specs.Bits.{bit_at, with_mark}
 use Rattle.tables.specs.Layout.{place, task_row}
 use Rattle.tables.proofs.Bits.{mask_lt}
-use Rattle.rules.specs.Fields
 use Rattle.rules.specs.Fields.{runs}
 use Rattle.rules.specs.Messages.{Message, none, publish, published, transit, granted, denied, task, report, release, ghost_ended, count_dropped, dropped, message, no_counts, bytes_of, tagged, message_in, message_at, from_slot, send, slot_place}
 use Rattle.promises.proofs.Bytes.{Bytes, bytes_set, bytes_write, bytes_part, bytes_more, bytes_zeros}

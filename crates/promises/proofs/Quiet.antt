@@ -12,7 +12,7 @@ use Rattle.tables.specs.Bytes.{byte, part}
 use Rattle.tables.specs.Bits.{digit}
 use Rattle.tables.specs.Walks.{count_parts}
 use Rattle.tables.proofs.Walks.{every_each, parts_at}
-use Rattle.rules.specs.Fields.{places, dead_mask, present, book_place}
+use Rattle.rules.specs.Fields.{places, dead_mask, book_place}
 use Rattle.rules.specs.Books.{book_of, under_repair, owes}
 use Rattle.rules.specs.Messages.{is_empty, slot_place, from_slot}
 use Rattle.rules.specs.Quiet.{is_full, messages_in_flight, calm_book, quiet}

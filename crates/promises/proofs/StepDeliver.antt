@@ -9,7 +9,7 @@ use borrow.Author.Tests.{eqb-true, leb-true}
 use Rattle.tables.specs.Bits.{marked}
 use Rattle.tables.specs.Walks.{every, some_of}
 use Rattle.tables.proofs.Walks.{every_each}
-use Rattle.rules.specs.Fields.{places, tasks_made, finishes_made, dead, task_status, finish_status, home, task_maker, opener, deny_mask, received, may_run}
+use Rattle.rules.specs.Fields.{places, tasks_made, finishes_made, dead, task_status, finish_status, home, task_maker, deny_mask, received, may_run}
 use Rattle.rules.specs.Action.{deliver}
 use Rattle.rules.specs.Messages.{Message, published, granted, denied, task, release, count_dropped, tagged, message_at, goes_to}
 use Rattle.rules.specs.Deliver.{discarded, waits_for_repair, held, fits, deliver_wanted, delivered, deliver_message, deliver_step, deliver_task}

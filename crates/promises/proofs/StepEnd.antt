@@ -9,7 +9,7 @@ use lib.ListN.{get_or-eq_default}
 use borrow.Author.Tests.{eqb-true, eqb-false, leb-true, ltb-true, ltb-false}
 use Rattle.tables.specs.Bytes.{byte}
 use Rattle.tables.proofs.Walks.{every_each}
-use Rattle.rules.specs.Fields.{task_at, task_finish, task_sent, task_made, home, opener, is_published, finish_status, local_live, is_main}
+use Rattle.rules.specs.Fields.{task_at, task_finish, task_sent, task_made, is_published, finish_status, local_live, is_main}
 use Rattle.rules.specs.Action.{end}
 use Rattle.rules.specs.Messages.{lowest_empty, slots_full}
 use Rattle.rules.specs.End

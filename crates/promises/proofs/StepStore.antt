@@ -14,7 +14,7 @@ use Rattle.tables.proofs.Walks.{every_each}
 use Rattle.rules.specs.Fields.{finishes_made, dead_mask, dead, home, present, finish_status, live, live_place}
 use Rattle.rules.specs.Action.{deliver}
 use Rattle.rules.specs.Books.{book_of, under_repair}
-use Rattle.rules.specs.Messages.{Message, publish, transit, report, ghost_ended, dropped, message_at, none}
+use Rattle.rules.specs.Messages.{Message, publish, transit, report, ghost_ended, dropped, message_at}
 use Rattle.rules.specs.Closing.{closing_test}
 use Rattle.rules.specs.Deliver.{book_absent, discarded, waits_for_repair, lowers, fits, delivered, deliver_message, deliver_step, nearest}
 use Rattle.rules.specs.Deliver.{deliver_report as report_rule, deliver_ghost_ended as ghost_ended_rule, deliver_dropped as dropped_rule}

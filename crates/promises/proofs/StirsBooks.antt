@@ -11,7 +11,7 @@ use Rattle.tables.specs.Bits.{marked}
 use Rattle.tables.specs.Layout.{place, book_row}
 use Rattle.tables.specs.Walks.{every, some_of, some_below}
 use Rattle.tables.proofs.Walks.{every_each, each_every}
-use Rattle.rules.specs.Fields.{places, finishes_made, dead_mask, dead, present, adopt_due, live, asked_marks, finish_made, in_session}
+use Rattle.rules.specs.Fields.{places, finishes_made, dead_mask, dead, adopt_due, live, asked_marks, finish_made, in_session}
 use Rattle.rules.specs.Action.{adopt, cancel, ask}
 use Rattle.rules.specs.Books.{book_of, column, dead_column, under_repair, owed_cell, owes}
 use Rattle.rules.specs.Messages.{slots_full}

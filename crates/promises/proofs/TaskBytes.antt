@@ -5,7 +5,6 @@ use native.Mathlib.Omega.{arith}
 use lib.Dec.{eqb}
 use lib.ListN.{set}
 use Rattle.tables.specs.Layout.{place, task_row, finish_row}
-use Rattle.rules.specs.Fields
 use Rattle.rules.specs.Fields.{tasks_made, finishes_made, home, local_live, received_place, local_live_place, reported_place}
 use Rattle.rules.specs.Messages.{publish, transit, report, no_counts, lowest_empty}
 use Rattle.rules.specs.Fields.{task_at, task_finish, is_published, opener, is_main}

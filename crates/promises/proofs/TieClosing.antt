@@ -7,7 +7,7 @@ use native.Mathlib.Omega.{arith}
 use lib.ListN.{set}
 use Rattle.tables.specs.Bytes.{byte}
 use Rattle.tables.specs.Walks.{every, some_of}
-use Rattle.rules.specs.Fields.{book_place, dead, home, live, live_place}
+use Rattle.rules.specs.Fields.{book_place, live, live_place}
 use Rattle.rules.specs.Books.{book_of, lowered_column}
 use Rattle.rules.specs.Books.{with_book as write_book}
 use Rattle.rules.specs.Closing.{closes, closed_book, closing_test, closing_sends}

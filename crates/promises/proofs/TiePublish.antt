@@ -6,7 +6,7 @@ use Prim.Native.Nat.{ℕ, zero, suc, ◌≤◌, ◌<◌}
 use native.Mathlib.Omega.{arith}
 use borrow.Author.Tests.{ne_eqb}
 use Rattle.tables.specs.Walks.{some_of}
-use Rattle.rules.specs.Fields.{parent, present, home}
+use Rattle.rules.specs.Fields.{parent}
 use Rattle.rules.specs.Messages.{published}
 use Rattle.rules.specs.Deliver
 use Rattle.rules.specs.Deliver.{climb_stops, nearest}

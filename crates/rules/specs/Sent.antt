@@ -1,5 +1,5 @@
 -- "Done with what was sent": the tag of the message that a taken step sends, 0 where it sends none.
-use Rattle.std.specs.Prelude.{cond, List, ℕ, ◌+◌, ◌-◌, ◌*◌, eqb, set}
+use Rattle.std.specs.Prelude.{cond, List, ℕ, ◌-◌, eqb, set}
 use Rattle.rules.specs.Fields.{dead, home, is_adopted, live, live_place}
 use Rattle.rules.specs.Action.{Action, unknown, spawn, open_finish, end, deliver, kill, adopt, cancel, ask, begin}
 use Rattle.rules.specs.Books.{book_of, with_book, lowered_column}

@@ -1,7 +1,7 @@
 -- Steps noted one after the other: what the tables, the log and the tally hold after n of them, and after one more.
 use mathlib.Core.Path.{◌≡◌, refl, sym, ap, ◌∙◌}
 use mathlib.Core.List.{List, [], ◌∷◌, ◌++◌}
-use Prim.Native.Nat.{ℕ, suc, ◌+◌, ◌*◌, ◌≤◌, ◌<◌}
+use Prim.Native.Nat.{ℕ, suc, ◌+◌, ◌*◌, ◌<◌}
 use native.Mathlib.Omega.{arith}
 use lib.Dec.{eqb}
 use lib.ListN.{length, length-append}
@@ -10,7 +10,6 @@ use Rattle.tables.specs.Bytes.{over, write}
 use Rattle.tables.proofs.Writes.{write_end, write-after}
 use Rattle.rules.specs.Refusals.{answer}
 use Rattle.rules.specs.Step.{after}
-use Rattle.rules.proofs.Taken.{taken}
 use Rattle.model.specs.Base.Cases.{eq_cases}
 use Rattle.plan.specs.declared.Plan.{Plan}
 use Rattle.tally.specs.declared.Tally.{Tally}

@@ -52,7 +52,7 @@ pub fn dropped(t: &mut [u8], s: usize, f: u8, k: u8, v: u8, j: u8, n: u8) -> u8
     requires whole { Whole t.old }
     requires slot_there { s < 128 }
     requires in_range { ((1 ≤ f) × (f ≤ 32)) × ((v < 8) × (j < 8)) }
-    requires fits_byte { n ≤ live t.old f v j }
+    requires covered { n ≤ live t.old f v j }
     ensures { (t.new ≡ delivered t.old s (dropped f k v j n)) × (result ≡ reply_sent t.old s (dropped f k v j n)) }
 {
     let lives = counts::live_at(t, f, v, j);

@@ -125,7 +125,7 @@ fn is_first(t: &[u8], k: u8) -> bool
 // Makes and sends the task, the message in slot s; answers the message's tag.
 fn send_task(t: &mut [u8], k: u8, p: u8, s: usize) -> u8
     requires whole { Whole t.old }
-    requires counts { tasks_made t.old < 255 }
+    requires room { tasks_made t.old < 255 }
     requires lowest { (lowest_empty t.old ≡ s) × (s < 128) }
     ensures { (result ≡ sent_by t.old (spawn k p)) × (t.new ≡ step t.old (spawn k p)) }
 {

@@ -2,7 +2,6 @@ use mathlib.Core.Path.{sym, ◌∙◌}
 use native.Mathlib.Omega.{arith}
 use Rattle.actions.proofs.Named.{named_by, kind_range, is_begin_lem}
 use Rattle.actions.proofs.Records.{unnamed_says, unnamed_keeps}
-use borrow.Author.Rules.{rules}
 use Rattle.actions.proofs.act.Goals as goal
 
 pub returns-else-is_action : goal.returns-else-is_action

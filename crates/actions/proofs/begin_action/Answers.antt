@@ -2,7 +2,6 @@ use mathlib.Core.Path.{refl}
 use Rattle.rules.specs.Action.{begin}
 use Rattle.rules.specs.Refusals.{no_action, unsound}
 use Rattle.actions.proofs.Records.{step_says, step_takes}
-use borrow.Author.Rules.{rules}
 use Rattle.actions.proofs.begin_action.Goals as goal
 
 pub returns : goal.returns

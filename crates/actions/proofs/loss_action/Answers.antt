@@ -1,7 +1,6 @@
 use native.Mathlib.Omega.{arith}
 use Rattle.sound.proofs.Use.{places_range, finishes_most}
 use Rattle.actions.proofs.Named.{is_kill, is_adopt, is_cancel, is_ask}
-use borrow.Author.Rules.{rules}
 use Rattle.actions.proofs.loss_action.Goals as goal
 
 pub kill_place-requires : goal.kill_place-requires

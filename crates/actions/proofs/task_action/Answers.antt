@@ -1,7 +1,6 @@
 use native.Mathlib.Omega.{arith}
 use Rattle.actions.proofs.Named.{is_spawn, is_open_lem, is_end, is_deliver}
 use Rattle.actions.proofs.Inside.{task_inside}
-use borrow.Author.Rules.{rules}
 use Rattle.actions.proofs.task_action.Goals as goal
 
 pub end_task-requires : goal.end_task-requires

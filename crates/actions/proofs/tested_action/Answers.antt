@@ -1,7 +1,6 @@
 use mathlib.Core.Path.{sym, ◌∙◌}
 use Rattle.actions.proofs.Named.{unsound_by}
 use Rattle.actions.proofs.Records.{unsound_says, unsound_keeps, step_says, step_takes}
-use borrow.Author.Rules.{rules}
 use Rattle.actions.proofs.tested_action.Goals as goal
 
 pub returns-else-is_sound : goal.returns-else-is_sound

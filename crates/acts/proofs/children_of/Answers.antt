@@ -1,7 +1,3 @@
-use Prim.Native.Nat.{◌≤◌, ◌-◌}
-use mathlib.Core.Path.{◌≡◌}
-use Rattle.acts.specs.Acts.{spawner}
-use Rattle.plan.specs.Tree.{children_of}
 use Rattle.acts.proofs.Acts.{children_none, children_more, children_done}
 use borrow.Author.Rules.{rules}
 use Rattle.acts.proofs.children_of.Goals as goal

@@ -2,8 +2,6 @@ use Prim.Native.Nat.{◌≤◌, ◌-◌}
 use mathlib.Core.Path.{◌≡◌}
 use Rattle.acts.specs.Acts.{spawner}
 use Rattle.plan.specs.Tree.{children_of}
-use Rattle.acts.proofs.Acts.{children_none, children_more, children_done}
-use borrow.Author.Rules.{rules}
 use Rattle.acts.proofs.children_of.Given as goal
 
 abbrev pub invariant-loop-j : goal.invariant-loop-j

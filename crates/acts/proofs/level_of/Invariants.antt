@@ -2,8 +2,7 @@ use Prim.Native.Nat.{◌≤◌, ◌-◌}
 use mathlib.Core.Path.{◌≡◌}
 use Rattle.acts.specs.Acts.{spawner}
 use Rattle.plan.specs.Tree.{level_of}
-use Rattle.acts.proofs.Acts.{level_left, level_none, level_pass, level_stop, level_done}
-use borrow.Author.Rules.{rules}
+use Rattle.acts.proofs.Acts.{level_left}
 use Rattle.acts.proofs.level_of.Given as goal
 
 abbrev pub invariant-loop-up : goal.invariant-loop-up

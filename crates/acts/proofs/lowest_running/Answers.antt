@@ -1,7 +1,4 @@
-use Prim.Native.Nat.{◌≤◌, ◌<◌, ◌-◌}
-use mathlib.Core.Path.{◌≡◌}
-use Rattle.acts.specs.Acts.{lowest_running}
-use Rattle.acts.proofs.Acts.{running_left, running_none, running_pass, running_stop, running_done}
+use Rattle.acts.proofs.Acts.{running_none, running_pass, running_stop, running_done}
 use borrow.Author.Rules.{rules}
 use Rattle.acts.proofs.lowest_running.Goals as goal
 

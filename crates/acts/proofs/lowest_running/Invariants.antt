@@ -1,8 +1,7 @@
 use Prim.Native.Nat.{◌≤◌, ◌<◌, ◌-◌}
 use mathlib.Core.Path.{◌≡◌}
 use Rattle.acts.specs.Acts.{lowest_running}
-use Rattle.acts.proofs.Acts.{running_left, running_none, running_pass, running_stop, running_done}
-use borrow.Author.Rules.{rules}
+use Rattle.acts.proofs.Acts.{running_left}
 use Rattle.acts.proofs.lowest_running.Given as goal
 
 abbrev pub invariant-loop-j : goal.invariant-loop-j

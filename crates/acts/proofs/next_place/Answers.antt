@@ -1,5 +1,4 @@
 use Rattle.acts.proofs.Acts.{place-fits}
-use borrow.Author.Rules.{rules}
 use Rattle.acts.proofs.next_place.Goals as goal
 
 pub overflow_cast-result-2 : goal.overflow_cast-result-2

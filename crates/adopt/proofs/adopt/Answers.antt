@@ -1,6 +1,5 @@
 use Rattle.rules.specs.Adopt.{adopt_step}
 use Rattle.adopt.specs.Ghosts.{new_ghosts}
-use borrow.Author.Rules.{rules}
 use Rattle.adopt.proofs.adopt.Goals as goal
 
 pub returns : goal.returns

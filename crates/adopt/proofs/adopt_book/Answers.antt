@@ -3,7 +3,6 @@ use mathlib.Core.Path.{sym}
 use lib.Seq.{set-get_or}
 use Rattle.rules.specs.Adopt.{adopt_book}
 use Rattle.tables.proofs.Writes.{write-part-set, write_same}
-use borrow.Author.Rules.{rules}
 use Rattle.adopt.proofs.adopt_book.Goals as goal
 
 pub returns-then-is_orphan_at : goal.returns-then-is_orphan_at

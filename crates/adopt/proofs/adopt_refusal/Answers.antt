@@ -5,7 +5,6 @@ use Rattle.tables.specs.Walks.{every, some_of}
 use Rattle.rules.specs.Fields.{finish_made}
 use Rattle.rules.specs.Deliver.{book_absent}
 use Rattle.rules.specs.Refusals.{step_answer, first_of, step_refusals, not_there, wrong_place, not_ready, must_wait, no_room, unwanted}
-use borrow.Author.Rules.{rules}
 use Rattle.adopt.proofs.adopt_refusal.Goals as goal
 
 pub returns-then-f-lt1 : goal.returns-then-f-lt1

@@ -4,7 +4,6 @@ use Rattle.tables.proofs.Bits.{marked_low}
 use Rattle.tables.proofs.Tests.{last}
 use Rattle.adopt.proofs.Orphans.{book_orphan}
 use Rattle.adopt.specs.Ghosts.{is_ghost}
-use borrow.Author.Rules.{rules}
 use Rattle.adopt.proofs.is_ghost.Goals as goal
 
 pub returns-then-is_marked : goal.returns-then-is_marked

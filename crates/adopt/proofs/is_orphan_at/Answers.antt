@@ -1,6 +1,5 @@
 use mathlib.Core.Path.{sym, ◌∙◌}
 use Rattle.adopt.proofs.Orphans.{orphan_bytes}
-use borrow.Author.Rules.{rules}
 use Rattle.adopt.proofs.is_orphan_at.Goals as goal
 
 pub returns : goal.returns

@@ -1,5 +1,4 @@
 use Rattle.adopt.specs.Ghosts.{new_ghosts}
-use borrow.Author.Rules.{rules}
 use Rattle.adopt.proofs.new_ghosts.Goals as goal
 
 pub returns : goal.returns

@@ -1,6 +1,5 @@
 use native.Mathlib.Omega.{arith}
 use Rattle.adopt.proofs.Marks.{ghosts-sum}
-use borrow.Author.Rules.{rules}
 use Rattle.adopt.proofs.with_ghosts.Goals as goal
 
 pub returns : goal.returns

@@ -1,5 +1,4 @@
 use Rattle.rules.specs.Deliver.{arrived}
-use borrow.Author.Rules.{rules}
 use Rattle.arrive.proofs.arrive.Goals as goal
 
 pub returns : goal.returns

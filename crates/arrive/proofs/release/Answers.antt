@@ -1,7 +1,6 @@
 use mathlib.Core.Path.{refl}
 use Rattle.rules.specs.Deliver.{delivered, deliver_release}
 use Rattle.rules.specs.Sent.{reply_sent}
-use borrow.Author.Rules.{rules}
 use Rattle.arrive.proofs.release.Goals as goal
 
 pub returns : goal.returns

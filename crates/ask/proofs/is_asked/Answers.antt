@@ -1,4 +1,3 @@
-use borrow.Author.Rules.{rules}
 use Rattle.ask.proofs.is_asked.Goals as goal
 
 pub returns : goal.returns

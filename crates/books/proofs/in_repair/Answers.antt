@@ -1,5 +1,4 @@
 use Rattle.books.proofs.Lent.{book_lent}
-use borrow.Author.Rules.{rules}
 use Rattle.books.proofs.in_repair.Goals as goal
 
 pub returns : goal.returns

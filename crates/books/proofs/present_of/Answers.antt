@@ -1,5 +1,4 @@
 use native.Mathlib.Nat.{add-zero}
-use borrow.Author.Rules.{rules}
 use Rattle.books.proofs.present_of.Goals as goal
 
 pub returns : goal.returns

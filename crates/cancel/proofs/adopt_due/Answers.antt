@@ -1,4 +1,3 @@
-use borrow.Author.Rules.{rules}
 use Rattle.cancel.proofs.adopt_due.Goals as goal
 
 pub returns : goal.returns

@@ -1,5 +1,4 @@
 use Rattle.books.proofs.Lent.{book_lent}
-use borrow.Author.Rules.{rules}
 use Rattle.cancel.proofs.book_closes_without.Goals as goal
 
 pub returns : goal.returns

@@ -1,5 +1,4 @@
 use Rattle.cancel.proofs.Cleared.{left_open, left_closed}
-use borrow.Author.Rules.{rules}
 use Rattle.cancel.proofs.closes_without.Goals as goal
 
 pub returns-then-live-gone : goal.returns-then-live-gone

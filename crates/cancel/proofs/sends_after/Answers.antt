@@ -2,7 +2,6 @@ use mathlib.Core.Path.{refl, sym, ◌∙◌}
 use Rattle.tables.proofs.Tests.{was_true, was_false, was_not, was_so, last}
 use Rattle.cancel.proofs.Laws.{sends_told}
 use Rattle.tables.specs.Walks.{every, some_of}
-use borrow.Author.Rules.{rules}
 use Rattle.cancel.proofs.sends_after.Goals as goal
 
 pub returns-else-book_closes_without : goal.returns-else-book_closes_without

@@ -1,4 +1,3 @@
-use borrow.Author.Rules.{rules}
 use Rattle.closing.proofs.clear_rows.Goals as goal
 
 pub returns : goal.returns

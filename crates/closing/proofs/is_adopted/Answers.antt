@@ -1,4 +1,3 @@
-use borrow.Author.Rules.{rules}
 use Rattle.closing.proofs.is_adopted.Goals as goal
 
 pub returns : goal.returns

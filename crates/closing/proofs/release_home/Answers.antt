@@ -1,5 +1,4 @@
 use Rattle.rules.specs.Messages.{bytes_of, send}
-use borrow.Author.Rules.{rules}
 use Rattle.closing.proofs.release_home.Goals as goal
 
 pub returns : goal.returns

@@ -1,5 +1,4 @@
 use Rattle.rules.specs.Deliver.{book_absent}
-use borrow.Author.Rules.{rules}
 use Rattle.counts.proofs.book_absent.Goals as goal
 
 pub returns : goal.returns

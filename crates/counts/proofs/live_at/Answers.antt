@@ -1,4 +1,3 @@
-use borrow.Author.Rules.{rules}
 use Rattle.counts.proofs.live_at.Goals as goal
 
 pub returns : goal.returns

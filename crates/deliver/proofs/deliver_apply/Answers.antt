@@ -2,7 +2,6 @@ use Rattle.deliver.proofs.Taken.{fits_in, gone_step, kept_step}
 use Rattle.rules.specs.Messages.{message_in, message_at}
 use native.Mathlib.Omega.{arith}
 use mathlib.Core.Path.{refl, sym, ◌∙◌}
-use borrow.Author.Rules.{rules}
 use Rattle.deliver.proofs.deliver_apply.Goals as goal
 
 pub is_discarded-requires : goal.is_discarded-requires

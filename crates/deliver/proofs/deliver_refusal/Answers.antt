@@ -4,7 +4,6 @@ use Rattle.rules.specs.Messages.{is_empty}
 use Rattle.tables.proofs.Tests.{if_lt, if_ge, was_eq, was_ne}
 use native.Mathlib.Omega.{arith}
 use mathlib.Core.Path.{refl}
-use borrow.Author.Rules.{rules}
 use Rattle.deliver.proofs.deliver_refusal.Goals as goal
 
 pub returns-then-s-gt127 : goal.returns-then-s-gt127

@@ -1,7 +1,6 @@
 use Rattle.rules.specs.Messages.{message_in, message_at}
 use native.Mathlib.Omega.{arith}
 use mathlib.Core.Path.{refl}
-use borrow.Author.Rules.{rules}
 use Rattle.deliver.proofs.says.Goals as goal
 
 pub says_tag-requires : goal.says_tag-requires

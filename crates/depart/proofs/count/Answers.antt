@@ -1,5 +1,4 @@
 use Rattle.rules.specs.Deliver.{counted}
-use borrow.Author.Rules.{rules}
 use Rattle.depart.proofs.count.Goals as goal
 
 pub returns : goal.returns

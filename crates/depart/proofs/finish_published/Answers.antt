@@ -1,4 +1,3 @@
-use borrow.Author.Rules.{rules}
 use Rattle.depart.proofs.finish_published.Goals as goal
 
 pub returns : goal.returns

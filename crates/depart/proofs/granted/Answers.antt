@@ -1,5 +1,4 @@
 use Rattle.rules.specs.Deliver.{delivered, deliver_granted}
-use borrow.Author.Rules.{rules}
 use Rattle.depart.proofs.granted.Goals as goal
 
 pub returns : goal.returns

@@ -2,7 +2,6 @@ use mathlib.Core.Path.{refl}
 use Rattle.rules.specs.Messages.{send, bytes_of}
 use Rattle.rules.specs.Deliver.{delivered, deliver_published}
 use Rattle.rules.specs.Sent.{reply_sent}
-use borrow.Author.Rules.{rules}
 use Rattle.depart.proofs.published.Goals as goal
 
 pub returns : goal.returns

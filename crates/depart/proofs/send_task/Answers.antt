@@ -2,7 +2,6 @@ use mathlib.Core.Path.{refl, sym, ◌∙◌}
 use Rattle.tables.proofs.Tests.{was_true, was_false}
 use Rattle.rules.specs.Messages.{send, bytes_of}
 use Rattle.rules.specs.Sent.{reply_sent}
-use borrow.Author.Rules.{rules}
 use Rattle.depart.proofs.send_task.Goals as goal
 
 pub returns-then-is_dead : goal.returns-then-is_dead

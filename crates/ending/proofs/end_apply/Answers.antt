@@ -3,7 +3,6 @@ use Rattle.rules.specs.Step.{step}
 use Rattle.rules.specs.End.{end_step}
 use mathlib.Core.Path.{sym, ◌∙◌}
 use Rattle.tables.proofs.Tests.{was_true, was_false}
-use borrow.Author.Rules.{rules}
 use Rattle.ending.proofs.end_apply.Goals as goal
 
 pub end_main-requires : goal.end_main-requires

@@ -1,5 +1,4 @@
 use Rattle.rules.specs.End.{end_published}
-use borrow.Author.Rules.{rules}
 use Rattle.ending.proofs.end_published.Goals as goal
 
 pub returns : goal.returns

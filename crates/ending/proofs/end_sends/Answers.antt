@@ -1,6 +1,5 @@
 use Rattle.rules.specs.End.{end_sends}
 use Rattle.tables.proofs.Tests.{was_true, was_false}
-use borrow.Author.Rules.{rules}
 use Rattle.ending.proofs.end_sends.Goals as goal
 
 pub returns-then-is_main : goal.returns-then-is_main

@@ -2,7 +2,6 @@ use Rattle.rules.proofs.Joins.{unchanged, changed}
 use Rattle.answers.proofs.Joins.{is_refused, is_done}
 use Rattle.ending.proofs.Laws.{end_made}
 use mathlib.Core.Path.{sym, ◌∙◌}
-use borrow.Author.Rules.{rules}
 use Rattle.ending.proofs.end_task.Goals as goal
 
 pub end_refusal-no-requires : goal.end_refusal-no-requires

@@ -1,6 +1,5 @@
 use Rattle.rules.specs.End.{end_wanted}
 use Rattle.tables.proofs.Tests.{was_true, was_false}
-use borrow.Author.Rules.{rules}
 use Rattle.ending.proofs.is_wanted.Goals as goal
 
 pub returns-then-is_main : goal.returns-then-is_main

@@ -1,5 +1,4 @@
 use Rattle.tables.proofs.Tests.{was_eq, was_ne}
-use borrow.Author.Rules.{rules}
 use Rattle.ending.proofs.opener_wanted.Goals as goal
 
 pub returns-then-finish_byte-eq0 : goal.returns-then-finish_byte-eq0

@@ -1,4 +1,3 @@
-use borrow.Author.Rules.{rules}
 use Rattle.fields.proofs.finish_byte.Goals as goal
 
 pub returns : goal.returns

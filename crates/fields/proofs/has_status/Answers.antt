@@ -1,4 +1,3 @@
-use borrow.Author.Rules.{rules}
 use Rattle.fields.proofs.has_status.Goals as goal
 
 pub returns : goal.returns

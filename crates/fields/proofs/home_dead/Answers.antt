@@ -1,4 +1,3 @@
-use borrow.Author.Rules.{rules}
 use Rattle.fields.proofs.home_dead.Goals as goal
 
 pub returns : goal.returns

@@ -1,5 +1,4 @@
 use Rattle.rules.specs.Fields.{is_main}
-use borrow.Author.Rules.{rules}
 use Rattle.fields.proofs.is_main.Goals as goal
 
 pub returns : goal.returns

@@ -1,7 +1,6 @@
 use mathlib.Core.Path.{refl}
 use Rattle.rules.specs.Action.{only0, action_named, action_of}
 use Rattle.finish.proofs.Entries.{tables_wrong, both_right, wrong_says, wrong_keeps, right_says, right_takes}
-use borrow.Author.Rules.{rules}
 use Rattle.finish.proofs.finish_begin.Goals as goal
 
 pub returns-then-t-ne-BYTES : goal.returns-then-t-ne-BYTES

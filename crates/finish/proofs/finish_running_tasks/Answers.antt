@@ -1,5 +1,4 @@
 use Rattle.finish.proofs.Entries.{no_reading_lem, is_reading}
-use borrow.Author.Rules.{rules}
 use Rattle.finish.proofs.finish_running_tasks.Goals as goal
 
 pub returns-then-t-ne-BYTES : goal.returns-then-t-ne-BYTES

@@ -1,6 +1,5 @@
 use Rattle.rules.specs.Action.{action_of}
 use Rattle.finish.proofs.Entries.{tables_wrong, record_wrong, both_right, wrong_says, wrong_keeps, right_says, right_takes}
-use borrow.Author.Rules.{rules}
 use Rattle.finish.proofs.finish_step.Goals as goal
 
 pub returns-then-t-ne-BYTES : goal.returns-then-t-ne-BYTES

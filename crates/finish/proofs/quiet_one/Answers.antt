@@ -1,6 +1,5 @@
 use mathlib.Core.Path.{sym, ap, ◌∙◌}
 use Rattle.tables.specs.Bits.{digit}
-use borrow.Author.Rules.{rules}
 use Rattle.finish.proofs.quiet_one.Goals as goal
 
 pub returns-then-is_quiet : goal.returns-then-is_quiet

@@ -1,5 +1,4 @@
 use Rattle.finish.proofs.Entries.{record_lent, schedule_short, schedule_over, wrong_says, wrong_keeps}
-use borrow.Author.Rules.{rules}
 use Rattle.finish.proofs.step_at.Goals as goal
 
 pub returns-then-schedule-lt4 : goal.returns-then-schedule-lt4

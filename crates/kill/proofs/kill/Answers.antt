@@ -1,6 +1,5 @@
 use Rattle.rules.specs.Kill.{kill_step}
 use Rattle.loss.proofs.Goes.{mark_aside}
-use borrow.Author.Rules.{rules}
 use Rattle.kill.proofs.kill.Goals as goal
 
 pub returns : goal.returns

@@ -3,9 +3,6 @@ use mathlib.Core.Path.{◌≡◌}
 use lib.ListN.{length}
 use Rattle.rules.specs.Kill.{kill_finish}
 use Rattle.tables.specs.Walks.{change_parts}
-use Rattle.tables.proofs.Changes.{change_none, change_done}
-use Rattle.kill.proofs.Turns.{finishes_more}
-use borrow.Author.Rules.{rules}
 use Rattle.kill.proofs.kill_finishes.Given as goal
 
 abbrev pub invariant-loop-j : goal.invariant-loop-j

@@ -1,8 +1,3 @@
-use Prim.Native.Nat.{◌≤◌, ◌-◌}
-use mathlib.Core.Path.{◌≡◌}
-use lib.ListN.{length}
-use Rattle.rules.specs.Kill.{kill_local}
-use Rattle.tables.specs.Walks.{change_parts}
 use Rattle.tables.proofs.Changes.{change_none, change_done}
 use Rattle.kill.proofs.Turns.{locals_more}
 use borrow.Author.Rules.{rules}

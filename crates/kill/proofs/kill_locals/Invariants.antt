@@ -3,9 +3,6 @@ use mathlib.Core.Path.{◌≡◌}
 use lib.ListN.{length}
 use Rattle.rules.specs.Kill.{kill_local}
 use Rattle.tables.specs.Walks.{change_parts}
-use Rattle.tables.proofs.Changes.{change_none, change_done}
-use Rattle.kill.proofs.Turns.{locals_more}
-use borrow.Author.Rules.{rules}
 use Rattle.kill.proofs.kill_locals.Given as goal
 
 abbrev pub invariant-loop-j : goal.invariant-loop-j

@@ -2,7 +2,6 @@ use mathlib.Core.Path.{refl}
 use borrow.Author.Tests.{lt-ltb, le-ltb}
 use Rattle.rules.specs.Fields.{in_session}
 use Rattle.rules.specs.Refusals.{step_answer, first_of, step_refusals, not_there, wrong_place, not_ready, must_wait, no_room, unwanted}
-use borrow.Author.Rules.{rules}
 use Rattle.kill.proofs.kill_refusal.Goals as goal
 
 pub returns-then-t-p : goal.returns-then-t-p

@@ -1,4 +1,3 @@
-use borrow.Author.Rules.{rules}
 use Rattle.kill.proofs.mark_dead.Goals as goal
 
 pub returns : goal.returns

@@ -1,12 +1,8 @@
 use Prim.Native.Nat.{◌≤◌, ◌*◌, ◌-◌}
 use mathlib.Core.Path.{◌≡◌}
-use native.Mathlib.Omega.{arith}
 use lib.ListN.{length}
-use Rattle.io.proofs.Counting.{prefix_len_of_le}
 use Rattle.tables.specs.Bytes.{write}
 use Rattle.lines.specs.Lines.{step_lines}
-use Rattle.lines.proofs.Words.{lines_none, lines_start, lines_more, lines_end}
-use borrow.Author.Rules.{rules}
 use Rattle.lines.proofs.put_steps.Given as goal
 
 abbrev pub invariant-loop-i : goal.invariant-loop-i

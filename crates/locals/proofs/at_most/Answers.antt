@@ -1,8 +1,3 @@
-use Prim.Native.Nat.{◌≤◌}
-use mathlib.Core.Path.{◌≡◌}
-use lib.Dec.{leb}
-use Rattle.tables.specs.Bytes.{byte}
-use Rattle.tables.specs.Walks.{every_below}
 use Rattle.rules.specs.End.{each_at_most}
 use Rattle.tables.proofs.Below.{every_pass, every_stop, every_done}
 use borrow.Author.Rules.{rules}

@@ -4,8 +4,6 @@ use lib.Dec.{leb}
 use Rattle.tables.specs.Bytes.{byte}
 use Rattle.tables.specs.Walks.{every_below}
 use Rattle.rules.specs.End.{each_at_most}
-use Rattle.tables.proofs.Below.{every_pass, every_stop, every_done}
-use borrow.Author.Rules.{rules}
 use Rattle.locals.proofs.at_most.Given as goal
 
 abbrev pub invariant-loop-n : goal.invariant-loop-n

@@ -1,6 +1,5 @@
 use Rattle.rules.specs.Messages.{no_counts}
 use Rattle.locals.proofs.Counts.{one_none}
-use borrow.Author.Rules.{rules}
 use Rattle.locals.proofs.one_at.Goals as goal
 
 pub returns-then-h-ge8 : goal.returns-then-h-ge8

@@ -1,4 +1,3 @@
-use borrow.Author.Rules.{rules}
 use Rattle.locals.proofs.put_reported.Goals as goal
 
 pub returns : goal.returns

@@ -1,6 +1,5 @@
 use native.Mathlib.Nat.{add-zero}
 use Rattle.rules.specs.End.{received_row}
-use borrow.Author.Rules.{rules}
 use Rattle.locals.proofs.received_row.Goals as goal
 
 pub returns : goal.returns

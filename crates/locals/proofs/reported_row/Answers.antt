@@ -1,5 +1,4 @@
 use Rattle.rules.specs.End.{reported_row}
-use borrow.Author.Rules.{rules}
 use Rattle.locals.proofs.reported_row.Goals as goal
 
 pub returns : goal.returns

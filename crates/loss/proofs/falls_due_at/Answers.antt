@@ -1,4 +1,3 @@
-use borrow.Author.Rules.{rules}
 use Rattle.loss.proofs.falls_due_at.Goals as goal
 
 pub returns : goal.returns

@@ -1,6 +1,5 @@
 use mathlib.Core.Path.{sym, ◌∙◌}
 use Rattle.loss.proofs.Rows.{slot_goes}
-use borrow.Author.Rules.{rules}
 use Rattle.loss.proofs.goes_to.Goals as goal
 
 pub returns : goal.returns

@@ -4,7 +4,6 @@ use lib.Seq.{set-get_or}
 use Rattle.rules.specs.Kill.{kill_book}
 use Rattle.tables.proofs.Writes.{write-part-set, write_same}
 use Rattle.loss.specs.Tags.{falls_due}
-use borrow.Author.Rules.{rules}
 use Rattle.loss.proofs.kill_book.Goals as goal
 
 pub returns-then-falls_due_at : goal.returns-then-falls_due_at

@@ -4,7 +4,6 @@ use lib.Seq.{set-get_or}
 use Rattle.rules.specs.Kill.{kill_finish}
 use Rattle.tables.proofs.Writes.{write-part-set, write_same}
 use Rattle.loss.proofs.Rows.{finish_test_lem}
-use borrow.Author.Rules.{rules}
 use Rattle.loss.proofs.kill_finish.Goals as goal
 
 pub returns-then-loses_finish : goal.returns-then-loses_finish

@@ -2,7 +2,6 @@ use mathlib.Core.Path.{sym}
 use borrow.Author.Tests.{eq-eqb, ne_eqb}
 use Rattle.tables.proofs.Writes.{write_same}
 use Rattle.rules.specs.Kill.{kill_local}
-use borrow.Author.Rules.{rules}
 use Rattle.loss.proofs.kill_local.Goals as goal
 
 pub returns-then-y-p : goal.returns-then-y-p

@@ -2,7 +2,6 @@ use mathlib.Core.Path.{sym}
 use borrow.Author.Tests.{eq-eqb, ne_eqb}
 use Rattle.tables.proofs.Writes.{write_same}
 use Rattle.rules.specs.Kill.{kill_slot}
-use borrow.Author.Rules.{rules}
 use Rattle.loss.proofs.kill_slot.Goals as goal
 
 pub returns-then-to-p : goal.returns-then-to-p

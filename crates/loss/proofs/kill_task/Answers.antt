@@ -4,7 +4,6 @@ use lib.Seq.{set-get_or}
 use Rattle.rules.specs.Kill.{kill_task}
 use Rattle.tables.proofs.Writes.{write-part-set, write_same}
 use Rattle.loss.proofs.Rows.{task_test_lem}
-use borrow.Author.Rules.{rules}
 use Rattle.loss.proofs.kill_task.Goals as goal
 
 pub returns-then-loses_task : goal.returns-then-loses_task

@@ -1,6 +1,5 @@
 use native.Mathlib.Nat.{add-zero}
 use Rattle.messages.proofs.Slots.{part_from_slot}
-use borrow.Author.Rules.{rules}
 use Rattle.messages.proofs.counts_at.Goals as goal
 
 pub returns : goal.returns

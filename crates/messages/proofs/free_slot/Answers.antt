@@ -1,7 +1,6 @@
 use Rattle.messages.proofs.Slots.{found_slot, found_full}
 use mathlib.Core.Bool.{true≢false}
 use mathlib.Core.Path.{sym, ◌∙◌}
-use borrow.Author.Rules.{rules}
 use Rattle.messages.proofs.free_slot.Goals as goal
 
 pub returns-in-At : goal.returns-in-At

@@ -1,7 +1,6 @@
 use lib.Seq.{get_or-drop}
 use native.Mathlib.Nat.{add-zero}
 use Rattle.rules.specs.Messages.{is_empty}
-use borrow.Author.Rules.{rules}
 use Rattle.messages.proofs.is_empty.Goals as goal
 
 pub returns : goal.returns

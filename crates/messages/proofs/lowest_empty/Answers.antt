@@ -1,9 +1,7 @@
-use Prim.Native.Nat.{◌≤◌, ◌-◌}
-use mathlib.Core.Path.{◌≡◌}
 use native.Mathlib.Nat.{zero-add}
 use Rattle.tables.proofs.Places.{slot_place_lem}
-use Rattle.tables.proofs.Walks.{first_left, first-none, first_pass, first_stop, first_done}
-use Rattle.rules.specs.Messages.{is_empty, lowest_empty}
+use Rattle.tables.proofs.Walks.{first-none, first_pass, first_stop, first_done}
+use Rattle.rules.specs.Messages.{lowest_empty}
 use Rattle.messages.proofs.Slots.{found_none, found_at_lem}
 use borrow.Author.Rules.{rules}
 use Rattle.messages.proofs.lowest_empty.Goals as goal

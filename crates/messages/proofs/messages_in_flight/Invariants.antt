@@ -1,10 +1,7 @@
 use Prim.Native.Nat.{◌+◌, ◌≤◌, ◌-◌}
 use mathlib.Core.Path.{◌≡◌}
-use native.Mathlib.Nat.{zero-add}
-use Rattle.tables.proofs.Places.{slot_place_lem}
-use Rattle.tables.proofs.Walks.{count_left, count_none, count_more, count_done}
+use Rattle.tables.proofs.Walks.{count_left}
 use Rattle.rules.specs.Quiet.{is_full, messages_in_flight}
-use borrow.Author.Rules.{rules}
 use Rattle.messages.proofs.messages_in_flight.Given as goal
 
 abbrev pub invariant-loop-s : goal.invariant-loop-s

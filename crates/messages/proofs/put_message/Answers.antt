@@ -1,6 +1,5 @@
 use native.Mathlib.Nat.{add-zero}
 use Rattle.rules.specs.Messages.{message, no_counts}
-use borrow.Author.Rules.{rules}
 use Rattle.messages.proofs.put_message.Goals as goal
 
 pub returns : goal.returns

@@ -1,8 +1,6 @@
-use Prim.Native.Nat.{◌+◌, ◌≤◌, ◌<◌, ◌-◌}
-use mathlib.Core.Path.{◌≡◌}
 use Rattle.tables.proofs.Places.{task-place}
-use Rattle.tables.proofs.Walks.{count_left, count_none, count_more, count_done}
-use Rattle.rules.specs.Quiet.{is_running, running_tasks}
+use Rattle.tables.proofs.Walks.{count_none, count_more, count_done}
+use Rattle.rules.specs.Quiet.{running_tasks}
 use borrow.Author.Rules.{rules}
 use Rattle.messages.proofs.running_tasks.Goals as goal
 

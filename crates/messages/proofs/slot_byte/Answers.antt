@@ -1,6 +1,5 @@
 use native.Mathlib.Nat.{add-zero}
 use Rattle.messages.proofs.Slots.{byte_from_slot}
-use borrow.Author.Rules.{rules}
 use Rattle.messages.proofs.slot_byte.Goals as goal
 
 pub returns : goal.returns

@@ -1,6 +1,5 @@
 use Rattle.messages.proofs.Slots.{found_room, found_full}
-use mathlib.Core.Path.{sym, ◌∙◌}
-use borrow.Author.Rules.{rules}
+use mathlib.Core.Path.{sym}
 use Rattle.messages.proofs.slots_full.Goals as goal
 
 pub returns-in-At : goal.returns-in-At

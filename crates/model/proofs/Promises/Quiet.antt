@@ -1,5 +1,5 @@
 -- In a quiet state the books are right.
-use Rattle.std.specs.Prelude.{◌≡◌, true, false, ℕ, ◌+◌, ◌<◌}
+use Rattle.std.specs.Prelude.{◌≡◌, false, ℕ, ◌+◌, ◌<◌}
 use Rattle.std.proofs.Common.{arith}
 use Rattle.model.specs.Base.{on_true, on_false, is₂, is₃, bool_cases, eq_cases}
 use Rattle.model.specs.State.{State}

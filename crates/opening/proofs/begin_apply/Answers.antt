@@ -1,5 +1,4 @@
 use Rattle.rules.specs.Begin.{zero_tables, begin_step}
-use borrow.Author.Rules.{rules}
 use Rattle.opening.proofs.begin_apply.Goals as goal
 
 pub returns : goal.returns

@@ -2,7 +2,6 @@ use native.Mathlib.Omega.{arith}
 use Rattle.rules.specs.Open.{open_step}
 use Rattle.rules.specs.Step.{step}
 use Rattle.opening.proofs.Laws.{open_room}
-use borrow.Author.Rules.{rules}
 use Rattle.opening.proofs.open_apply.Goals as goal
 
 pub overflow_add-n : goal.overflow_add-n

@@ -1,6 +1,5 @@
 use native.Mathlib.Nat.{add-zero}
 use Rattle.rules.specs.Open.{opened}
-use borrow.Author.Rules.{rules}
 use Rattle.opening.proofs.open_rows.Goals as goal
 
 pub returns : goal.returns

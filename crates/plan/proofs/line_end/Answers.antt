@@ -1,9 +1,4 @@
 use Rattle.plan.proofs.Places.{line_none, line_more, line_stops, line_past}
-use mathlib.Core.Path.{◌≡◌}
-use mathlib.Core.List.{◌++◌}
-use Prim.Native.Nat.{◌-◌, ◌≤◌}
-use lib.ListN.{length, drop, take}
-use Rattle.plan.specs.Plan.{first_line}
 use borrow.Author.Rules.{rules}
 use Rattle.plan.proofs.line_end.Goals as goal
 

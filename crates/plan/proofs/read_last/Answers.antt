@@ -1,5 +1,4 @@
 use Rattle.plan.proofs.Places.{last_past, last_not}
-use borrow.Author.Rules.{rules}
 use Rattle.plan.proofs.read_last.Goals as goal
 
 pub returns-then-n-t : goal.returns-then-n-t

@@ -1,5 +1,4 @@
 use Rattle.plan.proofs.Places.{line_read, plan_taken, plan_refused}
-use borrow.Author.Rules.{rules}
 use Rattle.plan.proofs.read_line.Goals as goal
 
 pub returns-then-fits : goal.returns-then-fits

@@ -1,7 +1,3 @@
-use mathlib.Core.Path.{◌≡◌}
-use Prim.Native.Nat.{◌-◌, ◌≤◌}
-use lib.ListN.{length, drop}
-use Rattle.plan.specs.Reading.{read_on}
 use Rattle.plan.proofs.Places.{goes-taken, number_more, number_stops, number_past}
 use borrow.Author.Rules.{rules}
 use Rattle.plan.proofs.read_on.Goals as goal

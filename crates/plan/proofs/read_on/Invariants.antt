@@ -2,8 +2,6 @@ use mathlib.Core.Path.{◌≡◌}
 use Prim.Native.Nat.{◌-◌, ◌≤◌}
 use lib.ListN.{length, drop}
 use Rattle.plan.specs.Reading.{read_on}
-use Rattle.plan.proofs.Places.{goes-taken, number_more, number_stops, number_past}
-use borrow.Author.Rules.{rules}
 use Rattle.plan.proofs.read_on.Given as goal
 
 abbrev pub invariant-loop-i : goal.invariant-loop-i

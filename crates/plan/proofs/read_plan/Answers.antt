@@ -1,5 +1,4 @@
 use Rattle.plan.proofs.Lines.{first_read}
-use borrow.Author.Rules.{rules}
 use Rattle.plan.proofs.read_plan.Goals as goal
 
 pub returns : goal.returns

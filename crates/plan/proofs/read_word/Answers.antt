@@ -1,5 +1,4 @@
 use Rattle.plan.proofs.Places.{word_past, word-spaced, word-not}
-use borrow.Author.Rules.{rules}
 use Rattle.plan.proofs.read_word.Goals as goal
 
 pub returns-then-t-e : goal.returns-then-t-e

@@ -1,7 +1,4 @@
 use Rattle.plan.proofs.Trees.{tree_none, tree_more, tree_done, tree_room}
-use mathlib.Core.Path.{◌≡◌}
-use Prim.Native.Nat.{◌-◌, ◌≤◌}
-use Rattle.plan.specs.Tree.{tree_size}
 use borrow.Author.Rules.{rules}
 use Rattle.plan.proofs.tree_size.Goals as goal
 

@@ -1,11 +1,6 @@
-use Prim.Native.Nat.{◌≤◌, ◌-◌}
-use mathlib.Core.Path.{◌≡◌, refl}
-use lib.ListN.{drop}
-use Rattle.tables.specs.Walks.{every_part}
+use mathlib.Core.Path.{refl}
 use Rattle.tables.proofs.Places.{book_place_lem}
-use Rattle.tables.proofs.Walks.{parts_left, parts_none, parts_pass, parts_stop, parts_done}
-use Rattle.rules.specs.Fields.{places, dead_mask, book_place}
-use Rattle.rules.specs.Quiet.{calm_book}
+use Rattle.tables.proofs.Walks.{parts_none, parts_pass, parts_stop, parts_done}
 use borrow.Author.Rules.{rules}
 use Rattle.quiet.proofs.books_calm.Goals as goal
 

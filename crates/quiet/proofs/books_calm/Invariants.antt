@@ -1,12 +1,10 @@
 use Prim.Native.Nat.{◌≤◌, ◌-◌}
-use mathlib.Core.Path.{◌≡◌, refl}
+use mathlib.Core.Path.{◌≡◌}
 use lib.ListN.{drop}
 use Rattle.tables.specs.Walks.{every_part}
-use Rattle.tables.proofs.Places.{book_place_lem}
-use Rattle.tables.proofs.Walks.{parts_left, parts_none, parts_pass, parts_stop, parts_done}
+use Rattle.tables.proofs.Walks.{parts_left}
 use Rattle.rules.specs.Fields.{places, dead_mask, book_place}
 use Rattle.rules.specs.Quiet.{calm_book}
-use borrow.Author.Rules.{rules}
 use Rattle.quiet.proofs.books_calm.Given as goal
 
 abbrev pub invariant-loop-j : goal.invariant-loop-j

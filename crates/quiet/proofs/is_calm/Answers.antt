@@ -4,7 +4,6 @@ use lib.Seq.{get_or-drop}
 use Rattle.tables.specs.Walks.{every}
 use Rattle.tables.proofs.Tests.{if_eq, if_ne, was_not, was_so}
 use Rattle.rules.specs.Quiet.{calm_book}
-use borrow.Author.Rules.{rules}
 use Rattle.quiet.proofs.is_calm.Goals as goal
 
 pub returns-then-t-at-eq0 : goal.returns-then-t-at-eq0

@@ -1,5 +1,4 @@
 use Rattle.quiet.proofs.Lent.{book_lent}
-use borrow.Author.Rules.{rules}
 use Rattle.quiet.proofs.repairs.Goals as goal
 
 pub returns : goal.returns

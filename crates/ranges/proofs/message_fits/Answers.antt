@@ -2,7 +2,6 @@ use mathlib.Core.Path.{◌∙◌}
 use native.Mathlib.Omega.{arith}
 use Rattle.rules.specs.Messages.{tagged}
 use Rattle.ranges.proofs.Tags.{none_tag, waits_tag, moves_tag, dropped_tag}
-use borrow.Author.Rules.{rules}
 use Rattle.ranges.proofs.message_fits.Goals as goal
 
 pub returns-in-7 : goal.returns-in-7

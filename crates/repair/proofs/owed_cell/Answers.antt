@@ -1,5 +1,4 @@
 use Rattle.rules.specs.Books.{owed_cell}
-use borrow.Author.Rules.{rules}
 use Rattle.repair.proofs.owed_cell.Goals as goal
 
 pub returns : goal.returns

@@ -2,8 +2,6 @@ use Prim.Native.Nat.{◌≤◌}
 use mathlib.Core.Path.{◌≡◌}
 use Rattle.tables.specs.Walks.{some_below}
 use Rattle.rules.specs.Books.{owed_cell, owes}
-use Rattle.tables.proofs.Below.{some_pass, some_stop, some_done}
-use borrow.Author.Rules.{rules}
 use Rattle.repair.proofs.owes.Given as goal
 
 abbrev pub invariant-loop-n : goal.invariant-loop-n

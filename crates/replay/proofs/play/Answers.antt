@@ -1,9 +1,5 @@
-use Prim.Native.Nat.{◌≤◌, ◌*◌, ◌-◌}
-use mathlib.Core.Path.{◌≡◌}
 use native.Mathlib.Omega.{arith}
-use lib.ListN.{length}
 use Rattle.io.proofs.Counting.{prefix_len_of_le}
-use borrow.Author.Rules.{rules}
 use Rattle.replay.proofs.play.Goals as goal
 
 pub returns : goal.returns

@@ -1,5 +1,4 @@
 use Rattle.rules.specs.End.{end_earlier}
-use borrow.Author.Rules.{rules}
 use Rattle.reporting.proofs.end_earlier.Goals as goal
 
 pub returns : goal.returns

@@ -1,5 +1,4 @@
 use Rattle.rules.specs.End.{end_last}
-use borrow.Author.Rules.{rules}
 use Rattle.reporting.proofs.end_last.Goals as goal
 
 pub returns : goal.returns

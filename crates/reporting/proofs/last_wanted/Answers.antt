@@ -1,5 +1,4 @@
 use Rattle.tables.proofs.Tests.{was_eq, was_ne}
-use borrow.Author.Rules.{rules}
 use Rattle.reporting.proofs.last_wanted.Goals as goal
 
 pub returns-then-local_byte-ne1 : goal.returns-then-local_byte-ne1

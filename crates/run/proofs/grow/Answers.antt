@@ -1,8 +1,5 @@
-use mathlib.Core.Path.{◌≡◌}
-use Prim.Native.Nat.{◌-◌}
 use native.Mathlib.Omega.{arith}
-use lib.ListN.{length}
-use Rattle.run.proofs.Running.{Running, running_none, running_room, running-counts, running-next, running_ends}
+use Rattle.run.proofs.Running.{running_none, running_room, running-counts, running-next, running_ends}
 use borrow.Author.Rules.{rules}
 use Rattle.run.proofs.grow.Goals as goal
 

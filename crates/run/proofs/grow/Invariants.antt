@@ -1,9 +1,7 @@
 use mathlib.Core.Path.{◌≡◌}
 use Prim.Native.Nat.{◌-◌}
-use native.Mathlib.Omega.{arith}
 use lib.ListN.{length}
-use Rattle.run.proofs.Running.{Running, running_none, running_room, running-counts, running-next, running_ends}
-use borrow.Author.Rules.{rules}
+use Rattle.run.proofs.Running.{Running}
 use Rattle.run.proofs.grow.Given as goal
 
 abbrev pub invariant-loop-p : goal.invariant-loop-p

@@ -1,6 +1,5 @@
 use Rattle.rules.specs.Deliver.{delivered, deliver_ghost_ended}
 use Rattle.rules.specs.Sent.{reply_sent}
-use borrow.Author.Rules.{rules}
 use Rattle.settle.proofs.ghost_ended.Goals as goal
 
 pub returns : goal.returns

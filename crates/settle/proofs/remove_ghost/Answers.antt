@@ -1,5 +1,4 @@
 use Rattle.rules.specs.Deliver.{without_ghost}
-use borrow.Author.Rules.{rules}
 use Rattle.settle.proofs.remove_ghost.Goals as goal
 
 pub returns : goal.returns

@@ -1,8 +1,6 @@
-use Prim.Native.Nat.{◌≤◌, ◌-◌}
-use mathlib.Core.Path.{◌≡◌}
 use Rattle.tables.proofs.Places.{book_place_lem}
-use Rattle.tables.proofs.Walks.{parts_left, parts_none, parts_pass, parts_stop, parts_done}
-use Rattle.rules.specs.Sound.{book_sound, books_sound}
+use Rattle.tables.proofs.Walks.{parts_none, parts_pass, parts_stop, parts_done}
+use Rattle.rules.specs.Sound.{books_sound}
 use borrow.Author.Rules.{rules}
 use Rattle.sound.proofs.books_sound.Goals as goal
 

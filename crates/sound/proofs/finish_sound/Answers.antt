@@ -1,7 +1,6 @@
 use native.Mathlib.Nat.{add-zero}
 use lib.Seq.{get_or-drop}
 use Rattle.rules.specs.Sound.{finish_sound}
-use borrow.Author.Rules.{rules}
 use Rattle.sound.proofs.finish_sound.Goals as goal
 
 pub returns : goal.returns

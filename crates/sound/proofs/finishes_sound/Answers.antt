@@ -1,8 +1,6 @@
-use Prim.Native.Nat.{◌≤◌, ◌-◌}
-use mathlib.Core.Path.{◌≡◌}
 use Rattle.tables.proofs.Places.{finish_place}
-use Rattle.tables.proofs.Walks.{parts_left, parts_none, parts_pass, parts_stop, parts_done}
-use Rattle.rules.specs.Sound.{finish_sound, finishes_sound}
+use Rattle.tables.proofs.Walks.{parts_none, parts_pass, parts_stop, parts_done}
+use Rattle.rules.specs.Sound.{finishes_sound}
 use borrow.Author.Rules.{rules}
 use Rattle.sound.proofs.finishes_sound.Goals as goal
 

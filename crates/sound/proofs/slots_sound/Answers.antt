@@ -1,9 +1,7 @@
-use Prim.Native.Nat.{◌≤◌, ◌-◌}
-use mathlib.Core.Path.{◌≡◌}
 use native.Mathlib.Nat.{zero-add}
 use Rattle.tables.proofs.Places.{slot_place_lem}
-use Rattle.tables.proofs.Walks.{parts_left, parts_none, parts_pass, parts_stop, parts_done}
-use Rattle.rules.specs.Sound.{slot_sound, slots_sound}
+use Rattle.tables.proofs.Walks.{parts_none, parts_pass, parts_stop, parts_done}
+use Rattle.rules.specs.Sound.{slots_sound}
 use borrow.Author.Rules.{rules}
 use Rattle.sound.proofs.slots_sound.Goals as goal
 

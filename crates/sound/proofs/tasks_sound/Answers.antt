@@ -1,8 +1,6 @@
-use Prim.Native.Nat.{◌≤◌, ◌<◌, ◌-◌}
-use mathlib.Core.Path.{◌≡◌}
 use Rattle.tables.proofs.Places.{task-place}
-use Rattle.tables.proofs.Walks.{parts_left, parts_none, parts_pass, parts_stop, parts_done}
-use Rattle.rules.specs.Sound.{task_sound, tasks_sound}
+use Rattle.tables.proofs.Walks.{parts_none, parts_pass, parts_stop, parts_done}
+use Rattle.rules.specs.Sound.{tasks_sound}
 use borrow.Author.Rules.{rules}
 use Rattle.sound.proofs.tasks_sound.Goals as goal
 

@@ -1,9 +1,7 @@
 use Prim.Native.Nat.{◌≤◌, ◌<◌, ◌-◌}
 use mathlib.Core.Path.{◌≡◌}
-use Rattle.tables.proofs.Places.{task-place}
-use Rattle.tables.proofs.Walks.{parts_left, parts_none, parts_pass, parts_stop, parts_done}
+use Rattle.tables.proofs.Walks.{parts_left}
 use Rattle.rules.specs.Sound.{task_sound, tasks_sound}
-use borrow.Author.Rules.{rules}
 use Rattle.sound.proofs.tasks_sound.Given as goal
 
 abbrev pub invariant-loop-j : goal.invariant-loop-j

@@ -1,6 +1,5 @@
 use Rattle.rules.specs.Spawn.{first_spawn}
 use Rattle.rules.specs.Messages.{send, bytes_of}
-use borrow.Author.Rules.{rules}
 use Rattle.spawn.proofs.first.Goals as goal
 
 pub returns : goal.returns

@@ -1,6 +1,5 @@
 use Rattle.rules.specs.Spawn.{later_spawn}
 use Rattle.rules.specs.Messages.{send, bytes_of}
-use borrow.Author.Rules.{rules}
 use Rattle.spawn.proofs.later.Goals as goal
 
 pub returns : goal.returns

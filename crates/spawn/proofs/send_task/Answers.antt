@@ -3,7 +3,6 @@ use Rattle.rules.specs.Step.{step}
 use Rattle.rules.specs.Spawn.{spawn_step}
 use mathlib.Core.Path.{refl}
 use Rattle.tables.proofs.Tests.{was_true, was_false}
-use borrow.Author.Rules.{rules}
 use Rattle.spawn.proofs.send_task.Goals as goal
 
 pub returns-then-is_first : goal.returns-then-is_first

@@ -6,7 +6,7 @@ use borrow.Author.Rules.{rules}
 use Rattle.spawn.proofs.spawn_apply.Goals as goal
 
 pub send_task-requires : goal.send_task-requires
-send_task-requires c = record { whole = search rules; counts = (spawn_room _ _ _ c.requires.taken).0; lowest = found_slot _ _ (sym c.in-At.ensures) }
+send_task-requires c = record { whole = search rules; room = (spawn_room _ _ _ c.requires.taken).0; lowest = found_slot _ _ (sym c.in-At.ensures) }
 
 pub returns-in-Nothing : goal.returns-in-Nothing
 returns-in-Nothing c = absurd

@@ -1,6 +1,5 @@
 use Rattle.rules.proofs.Joins.{unchanged, changed}
 use Rattle.answers.proofs.Joins.{is_refused, is_done}
-use borrow.Author.Rules.{rules}
 use Rattle.spawn.proofs.spawn_task.Goals as goal
 
 pub returns-then-no-ne0 : goal.returns-then-no-ne0

@@ -1,6 +1,5 @@
 use Rattle.rules.specs.Spawn.{with_sent}
 use native.Mathlib.Nat.{add-zero}
-use borrow.Author.Rules.{rules}
 use Rattle.spawn.proofs.with_sent.Goals as goal
 
 pub returns : goal.returns

@@ -2,10 +2,7 @@ use Prim.Native.Nat.{◌-◌, ◌≤◌}
 use mathlib.Core.Path.{◌≡◌}
 use lib.ListN.{length}
 use Rattle.tables.specs.Walks.{change_parts}
-use Rattle.tables.proofs.Changes.{change_none, change_done}
-use Rattle.rules.specs.Books.{clear_row, cleared_column}
-use Rattle.square.proofs.Columns.{clear_more}
-use borrow.Author.Rules.{rules}
+use Rattle.rules.specs.Books.{clear_row}
 use Rattle.square.proofs.clear_column.Given as goal
 
 abbrev pub invariant-loop-j : goal.invariant-loop-j

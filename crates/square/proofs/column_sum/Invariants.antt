@@ -1,8 +1,6 @@
 use Prim.Native.Nat.{◌*◌, ◌-◌, ◌≤◌}
 use mathlib.Core.Path.{◌≡◌}
 use Rattle.square.specs.Square.{rows_sum, cell_at}
-use Rattle.square.proofs.Sums.{rows_none, rows_more, rows_done}
-use borrow.Author.Rules.{rules}
 use Rattle.square.proofs.column_sum.Given as goal
 
 abbrev pub invariant-loop-i : goal.invariant-loop-i

@@ -1,5 +1,4 @@
 use Rattle.rules.specs.Books.{ghosts}
-use borrow.Author.Rules.{rules}
 use Rattle.square.proofs.ghosts_of.Goals as goal
 
 pub returns : goal.returns

@@ -1,5 +1,4 @@
 use Rattle.square.specs.Square.{live_of}
-use borrow.Author.Rules.{rules}
 use Rattle.square.proofs.live_of.Goals as goal
 
 pub returns : goal.returns

@@ -1,9 +1,5 @@
-use Prim.Native.Nat.{◌-◌, ◌≤◌}
-use mathlib.Core.Path.{◌≡◌}
-use lib.ListN.{length}
-use Rattle.tables.specs.Walks.{change_parts}
 use Rattle.tables.proofs.Changes.{change_none, change_done}
-use Rattle.rules.specs.Books.{lower_row, lowered_column}
+use Rattle.rules.specs.Books.{lowered_column}
 use Rattle.square.proofs.Columns.{lower_more}
 use borrow.Author.Rules.{rules}
 use Rattle.square.proofs.lower_column.Goals as goal

@@ -4,8 +4,6 @@ use lib.Dec.{leb}
 use Rattle.tables.specs.Bytes.{byte}
 use Rattle.tables.specs.Walks.{every_below}
 use Rattle.rules.specs.Deliver.{lowers}
-use Rattle.tables.proofs.Below.{every_pass, every_stop, every_done}
-use borrow.Author.Rules.{rules}
 use Rattle.square.proofs.lowers.Given as goal
 
 abbrev pub invariant-loop-n : goal.invariant-loop-n

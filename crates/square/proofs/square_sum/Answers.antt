@@ -1,6 +1,3 @@
-use Prim.Native.Nat.{◌*◌, ◌-◌, ◌≤◌}
-use mathlib.Core.Path.{◌≡◌}
-use Rattle.square.specs.Square.{rows_sum, whole_row}
 use Rattle.square.proofs.Sums.{rows_none, rows_more, rows_done}
 use borrow.Author.Rules.{rules}
 use Rattle.square.proofs.square_sum.Goals as goal

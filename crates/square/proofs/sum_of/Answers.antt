@@ -1,6 +1,3 @@
-use Prim.Native.Nat.{◌*◌, ◌-◌, ◌≤◌}
-use mathlib.Core.Path.{◌≡◌}
-use Rattle.tables.specs.Walks.{sum_bytes}
 use Rattle.square.proofs.Sums.{sum-none, sum_more, sum_done}
 use borrow.Author.Rules.{rules}
 use Rattle.square.proofs.sum_of.Goals as goal

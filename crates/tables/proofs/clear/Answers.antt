@@ -1,7 +1,3 @@
-use Prim.Native.Nat.{◌≤◌, ◌-◌}
-use mathlib.Core.Path.{◌≡◌}
-use mathlib.Core.List.{◌++◌}
-use lib.ListN.{length, replicate, drop}
 use Rattle.tables.proofs.Writes.{clear_more, clear_done}
 use borrow.Author.Rules.{rules}
 use Rattle.tables.proofs.clear.Goals as goal

@@ -1,6 +1,5 @@
 use mathlib.Core.Path.{sym, ◌∙◌}
 use Rattle.tables.proofs.Bits.{marked_low, marked_high, bit_shift}
-use borrow.Author.Rules.{rules}
 use Rattle.tables.proofs.is_marked.Goals as goal
 
 pub returns-then-j-ge8 : goal.returns-then-j-ge8

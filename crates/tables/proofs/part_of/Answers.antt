@@ -3,7 +3,6 @@ use mathlib.Core.Path.{ap, ◌∙◌}
 use lib.ListN.{length}
 use native.Mathlib.Omega.{arith}
 use Rattle.tables.proofs.Writes.{part_lent, length_part}
-use borrow.Author.Rules.{rules}
 use Rattle.tables.proofs.part_of.Goals as goal
 
 pub returns : goal.returns

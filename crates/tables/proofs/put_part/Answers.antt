@@ -1,7 +1,3 @@
-use Prim.Native.Nat.{◌≤◌, ◌-◌}
-use mathlib.Core.Path.{◌≡◌}
-use lib.ListN.{length, take}
-use Rattle.tables.specs.Bytes.{write}
 use Rattle.tables.proofs.Writes.{copy_none, copy_more, copy_done}
 use borrow.Author.Rules.{rules}
 use Rattle.tables.proofs.put_part.Goals as goal

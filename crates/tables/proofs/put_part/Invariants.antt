@@ -2,8 +2,6 @@ use Prim.Native.Nat.{◌≤◌, ◌-◌}
 use mathlib.Core.Path.{◌≡◌}
 use lib.ListN.{length, take}
 use Rattle.tables.specs.Bytes.{write}
-use Rattle.tables.proofs.Writes.{copy_none, copy_more, copy_done}
-use borrow.Author.Rules.{rules}
 use Rattle.tables.proofs.put_part.Given as goal
 
 abbrev pub invariant-loop-j : goal.invariant-loop-j

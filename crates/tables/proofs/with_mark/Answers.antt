@@ -1,7 +1,6 @@
 use native.Mathlib.Omega.{arith}
 use mathlib.Core.Path.{sym}
 use Rattle.tables.proofs.Bits.{set_or, shift_one}
-use borrow.Author.Rules.{rules}
 use Rattle.tables.proofs.with_mark.Goals as goal
 
 pub returns : goal.returns

@@ -1,6 +1,5 @@
 use native.Mathlib.Omega.{arith}
 use Rattle.tables.proofs.Bits.{clear_sub, shift_one}
-use borrow.Author.Rules.{rules}
 use Rattle.tables.proofs.without_mark.Goals as goal
 
 pub overflow_sub-result : goal.overflow_sub-result

@@ -35,10 +35,10 @@ pub ghost_ended-requires : goal.ghost_ended-requires
 ghost_ended-requires c = record { whole = c.requires.whole; slot_there = c.requires.ranges.1; in_range = ghost_in_lem _ _ c.requires.ranges _ _ (c.requires.message ∙ tag_9 _ _ _ _ _ _ _ c.in-9.is) }
 
 pub count_dropped-requires : goal.count_dropped-requires
-count_dropped-requires c = record { whole = c.requires.whole; slot_there = c.requires.ranges.1; in_range = count_dropped_in _ _ c.requires.ranges _ _ _ _ _ (c.requires.message ∙ tag_10 _ _ _ _ _ _ _ c.in-10.is); fits_byte = count_dropped_room _ _ _ _ _ _ (fits-at _ _ _ (c.requires.message ∙ tag_10 _ _ _ _ _ _ _ c.in-10.is) c.requires.message_fits) }
+count_dropped-requires c = record { whole = c.requires.whole; slot_there = c.requires.ranges.1; in_range = count_dropped_in _ _ c.requires.ranges _ _ _ _ _ (c.requires.message ∙ tag_10 _ _ _ _ _ _ _ c.in-10.is); covered = count_dropped_room _ _ _ _ _ _ (fits-at _ _ _ (c.requires.message ∙ tag_10 _ _ _ _ _ _ _ c.in-10.is) c.requires.message_fits) }
 
 pub dropped-requires : goal.dropped-requires
-dropped-requires c = record { whole = c.requires.whole; slot_there = c.requires.ranges.1; in_range = dropped_in _ _ c.requires.ranges _ _ _ _ _ (c.requires.message ∙ tag_11 _ _ _ _ _ _ _ c.in-11.is); fits_byte = dropped_room _ _ _ _ _ _ (fits-at _ _ _ (c.requires.message ∙ tag_11 _ _ _ _ _ _ _ c.in-11.is) c.requires.message_fits) }
+dropped-requires c = record { whole = c.requires.whole; slot_there = c.requires.ranges.1; in_range = dropped_in _ _ c.requires.ranges _ _ _ _ _ (c.requires.message ∙ tag_11 _ _ _ _ _ _ _ c.in-11.is); covered = dropped_room _ _ _ _ _ _ (fits-at _ _ _ (c.requires.message ∙ tag_11 _ _ _ _ _ _ _ c.in-11.is) c.requires.message_fits) }
 
 pub returns-in-1 : goal.returns-in-1
 returns-in-1 c = delivered-at _ _ _ (c.requires.message ∙ tag_1 _ _ _ _ _ _ _ c.in-1.is) _ _ _ c.publish.ensures

@@ -1,6 +1,5 @@
 use borrow.Author.Tests.{eq-eqb, ne_eqb}
 use Rattle.tally.specs.Tally.{next}
-use borrow.Author.Rules.{rules}
 use Rattle.tally.proofs.next_of.Goals as goal
 
 pub returns-then-x-eq4294967295 : goal.returns-then-x-eq4294967295

@@ -1,5 +1,4 @@
 use Rattle.tally.specs.Tally.{noted}
-use borrow.Author.Rules.{rules}
 use Rattle.tally.proofs.tallied.Goals as goal
 
 pub returns : goal.returns

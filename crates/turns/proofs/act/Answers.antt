@@ -1,6 +1,5 @@
 use mathlib.Core.Path.{refl}
 use Rattle.turns.proofs.Order.{act-none, act_some}
-use borrow.Author.Rules.{rules}
 use Rattle.turns.proofs.act.Goals as goal
 
 pub returns-then-wide-k : goal.returns-then-wide-k

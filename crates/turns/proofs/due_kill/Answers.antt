@@ -1,5 +1,4 @@
 use Rattle.turns.proofs.Order.{kill-none, kill_early, kill_spared, kill-refused, kill-taken}
-use borrow.Author.Rules.{rules}
 use Rattle.turns.proofs.due_kill.Goals as goal
 
 pub returns-then-p-lt1 : goal.returns-then-p-lt1

@@ -1,8 +1,4 @@
-use Prim.Native.Nat.{◌≤◌, ◌-◌}
-use mathlib.Core.Path.{◌≡◌}
-use Rattle.turns.specs.Choice.{first_taken}
-use Rattle.turns.specs.Numbered.{records_of}
-use Rattle.turns.proofs.Taken.{taken_left, taken_none, try_stop, try_pass, try_done}
+use Rattle.turns.proofs.Taken.{taken_none, try_stop, try_pass, try_done}
 use borrow.Author.Rules.{rules}
 use Rattle.turns.proofs.lowest_taken.Goals as goal
 

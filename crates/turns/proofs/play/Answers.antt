@@ -1,5 +1,4 @@
 use Rattle.turns.specs.Played.{played_on}
-use borrow.Author.Rules.{rules}
 use Rattle.turns.proofs.play.Goals as goal
 
 pub returns : goal.returns

@@ -5,7 +5,6 @@ use Rattle.turns.specs.Choice.{taken_or}
 use Rattle.turns.specs.Numbered.{records_of, most_of}
 use Rattle.turns.proofs.Choice.{stops, goes_on_lem}
 use Rattle.turns.proofs.Order.{kind_chooses, repair_is}
-use borrow.Author.Rules.{rules}
 use Rattle.turns.proofs.repair.Goals as goal
 
 pub lowest_taken-adopt-requires : goal.lowest_taken-adopt-requires

@@ -1,5 +1,4 @@
 use Rattle.turns.proofs.Order.{act_spawns, act_ends}
-use borrow.Author.Rules.{rules}
 use Rattle.turns.proofs.task_act.Goals as goal
 
 pub returns-then-spawns_more : goal.returns-then-spawns_more

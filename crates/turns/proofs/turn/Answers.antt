@@ -8,7 +8,6 @@ use Rattle.turns.specs.Turn.{repair_or, turn_record}
 use Rattle.turns.specs.Numbered.{records_of, most_of}
 use Rattle.turns.proofs.Choice.{stops, goes_on_lem}
 use Rattle.turns.proofs.Order.{kind_chooses, repair_chooses, kill_chooses}
-use borrow.Author.Rules.{rules}
 use Rattle.turns.proofs.turn.Goals as goal
 
 -- what is left of a turn on tables t

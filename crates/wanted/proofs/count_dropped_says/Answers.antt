@@ -1,6 +1,5 @@
 use Rattle.tables.proofs.Tests.{was_true, was_false}
 use Rattle.wanted.proofs.Tags.{says_count_dropped}
-use borrow.Author.Rules.{rules}
 use Rattle.wanted.proofs.count_dropped_says.Goals as goal
 
 pub returns-then-is_dead : goal.returns-then-is_dead

@@ -1,4 +1,3 @@
-use borrow.Author.Rules.{rules}
 use Rattle.wanted.proofs.finish_has.Goals as goal
 
 pub returns : goal.returns

@@ -1,6 +1,5 @@
 use Rattle.tables.proofs.Tests.{was_true, was_false}
 use Rattle.wanted.proofs.Tags.{says_ghost_ended}
-use borrow.Author.Rules.{rules}
 use Rattle.wanted.proofs.ghost_ended_says.Goals as goal
 
 pub returns-then-book_absent : goal.returns-then-book_absent

@@ -1,4 +1,3 @@
-use borrow.Author.Rules.{rules}
 use Rattle.wanted.proofs.live_covers.Goals as goal
 
 pub returns : goal.returns

@@ -1,4 +1,3 @@
-use borrow.Author.Rules.{rules}
 use Rattle.wanted.proofs.live_room.Goals as goal
 
 pub returns : goal.returns

@@ -1,4 +1,3 @@
-use borrow.Author.Rules.{rules}
 use Rattle.wanted.proofs.local_room.Goals as goal
 
 pub returns : goal.returns

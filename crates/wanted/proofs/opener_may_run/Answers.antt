@@ -1,4 +1,3 @@
-use borrow.Author.Rules.{rules}
 use Rattle.wanted.proofs.opener_may_run.Goals as goal
 
 pub returns : goal.returns

@@ -1,6 +1,5 @@
 use Rattle.tables.proofs.Tests.{was_true, was_false}
 use Rattle.wanted.proofs.Tags.{says_publish}
-use borrow.Author.Rules.{rules}
 use Rattle.wanted.proofs.publish_says.Goals as goal
 
 pub returns-then-home_dead : goal.returns-then-home_dead

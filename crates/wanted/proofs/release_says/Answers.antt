@@ -1,6 +1,5 @@
 use Rattle.tables.proofs.Tests.{was_true, was_false}
 use Rattle.wanted.proofs.Tags.{says_release}
-use borrow.Author.Rules.{rules}
 use Rattle.wanted.proofs.release_says.Goals as goal
 
 pub returns-then-home_dead : goal.returns-then-home_dead

@@ -1,4 +1,3 @@
-use borrow.Author.Rules.{rules}
 use Rattle.wanted.proofs.sent_room.Goals as goal
 
 pub returns : goal.returns
