@@ -177,7 +177,8 @@ fn read_last(t: &[u8], at: usize) -> u32
     ensures { result ≡ last_of (drop at t.now) }
 {
     let n = read_number(t, at);
-    if n.end < t.len() {
+    let more = n.end < t.len();
+    if more {
         return NO_NUMBER;
     }
     n.value

@@ -17,6 +17,9 @@ use turns::Played;
 // The bytes of a log that has room for every run: five for each of 2,089 steps.
 pub const LOG: usize = 10445;
 
+// The kind of a turn that has no step.
+const NO_TURN: u8 = 0;
+
 // Notes a step: its five bytes behind those of the steps before, and its count.
 fn note_step(log: &mut [u8], u: Tally, d: Played) -> Tally
     requires room { (u.steps < 2089) × (10445 ≤ length log.old) }
@@ -54,7 +57,7 @@ pub fn grow(t: &mut [u8], log: &mut [u8], p: Plan) -> Tally
     };
     loop {
         let d = next_step(t, p, u.steps);
-        if d.kind == 0 {
+        if d.kind == NO_TURN {
             break u;
         }
         u = note_step(log, u, d);
