@@ -11,6 +11,7 @@ import os
 import re
 import subprocess
 import sys
+import tempfile
 
 SIGNATURE = re.compile(r"^(?:(?:unfoldable|abbrev|pub) )*(\S+) : (.*)$")
 PATH = re.compile(r"(?<![\w.'₀-₉-])c((?:\.[A-Za-z0-9_'-]+)+)")
@@ -349,7 +350,7 @@ class Function:
 def main(argv):
     crate, only = argv[0], argv[1:]
     where = f"crates/{crate}"
-    to = f"/tmp/names/{os.getpid()}-{crate}"
+    to = os.path.join(tempfile.mkdtemp(), crate)
     r = subprocess.run(["rt", "check", "--generated", to, "--old-names"], cwd=where, capture_output=True, text=True)
     if not os.path.exists(f"{to}/names.json"):
         print(r.stdout[-3000:], r.stderr[-2000:])
