@@ -69,36 +69,17 @@ def blocks(text):
     return uses, out
 
 
-def items(text):
-    """The items of a blank-separated or comma-separated list outside brackets."""
+def split(text, ends):
+    """The parts of a text between the characters that end one, outside brackets."""
     out, depth, cur = [], 0, ""
     for ch in text:
-        if ch in "([{":
-            depth += 1
-        if ch in ")]}":
-            depth -= 1
-        if depth == 0 and ch.isspace():
-            if cur:
-                out.append(cur)
-            cur = ""
-        else:
-            cur += ch
-    return out + ([cur] if cur else [])
-
-
-def commas(text):
-    out, depth, cur = [], 0, ""
-    for ch in text:
-        if ch in "([{":
-            depth += 1
-        if ch in ")]}":
-            depth -= 1
-        if depth == 0 and ch == ",":
+        depth += (ch in "([{") - (ch in ")]}")
+        if depth == 0 and ends(ch):
             out.append(cur.strip())
             cur = ""
         else:
             cur += ch
-    return out + ([cur.strip()] if cur.strip() else [])
+    return [part for part in [*out, cur.strip()] if part]
 
 
 def tuple_of(text):
@@ -112,7 +93,7 @@ def tuple_of(text):
         depth -= ch in ")]}"
         if depth == 0 and i < len(t) - 1:
             return None
-    parts = commas(t[1:-1])
+    parts = split(t[1:-1], lambda ch: ch == ",")
     return parts if len(parts) > 1 else None
 
 
@@ -281,7 +262,7 @@ class Function:
         if not m:
             self.said.append("no tie.close (tie.spec ..)")
             return
-        args = items(m.group(1))
+        args = split(m.group(1), str.isspace)
         by_name = {b["name"]: b for b in decls[:-1]}
         invariants, rest = [], []
         for a in args:
