@@ -1,3 +1,2 @@
-pub mod Inside
-pub mod Named
 pub mod Records
+pub mod Inside

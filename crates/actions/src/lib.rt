@@ -1,119 +1,167 @@
-// What a record asks for, on tables of the right length: its action is named or refused 1, the tables are sound or refused 8, then
-// the step itself.
+// What a record asks for, on tables of the right length: its action is named or refused, the tables are sound or it is refused, then the
+// step itself.
 #![tactic(auto)]
 
-ghost use Rattle.std.specs.Prelude.{◌≡◌, true, false, ◌≤◌, ◌<◌};
-ghost use Rattle.tables.specs.Layout.{Whole};
-ghost use Rattle.rules.specs.Action.{begin, action_named};
-ghost use Rattle.rules.specs.Refusals.{no_action, step_answer};
-ghost use Rattle.rules.specs.Sound.{sound};
-ghost use Rattle.rules.specs.Step.{step_after};
-ghost use Rattle.rules.specs.Sent.{sent_by};
-ghost use Rattle.answers.specs.Answers.{answered};
-ghost use Rattle.actions.specs.Records.{record_answer, record_after, is_action};
+ghost use Rattle.std.specs.Prelude.{◌≡◌};
+ghost use Rattle.rules.specs.Action.{action_of};
+ghost use Rattle.rules.specs.Refusals.{unsound};
+ghost use Rattle.answers.specs.Answers.{number_of};
+ghost use Rattle.actions.specs.Records.{record_answer, record_after, record_of, asked, ActionFrom};
 
-use answers::Answer;
+use answers::{Answer, Refusal};
+use tables::{SessionTables, Tables};
 
-// The record names an action: its kind is 1 to 9, and an operand that must be 0 is.
-fn is_action(kind: u8, b: u8, c: u8) -> bool
-    ensures { result ≡ is_action kind b c }
-{
-    if kind == 0 {
-        return false;
-    }
-    if 9 < kind {
-        return false;
-    }
-    if kind == 8 {
-        return true;
-    }
-    if c != 0 {
-        return false;
-    }
-    if kind == 1 {
-        return true;
-    }
-    if kind == 7 {
-        return true;
-    }
-    b == 0
+// The nine actions with their operands.
+#[derive(Clone, Copy, Debug, PartialEq, Eq, Drop)]
+pub enum Action {
+    Spawn {
+        task: u8,
+        place: u8,
+    },
+    Open {
+        task: u8,
+    },
+    End {
+        task: u8,
+    },
+    Deliver {
+        slot: u8,
+    },
+    Kill {
+        place: u8,
+    },
+    Adopt {
+        finish: u8,
+    },
+    Cancel {
+        finish: u8,
+        dead_place: u8,
+    },
+    Ask {
+        finish: u8,
+        dead_place: u8,
+        live_place: u8,
+    },
+    Begin {
+        places: u32,
+    },
 }
 
-// Kinds 1 to 4: what tasks do, and deliver.
-fn task_action(t: &mut [u8], kind: u8, a: u8, b: u8, c: u8) -> Answer
-    requires whole { Whole t.old }
-    requires ranges { sound t.old ≡ true }
-    requires named { (no_action (action_named kind a b c) ≡ false) × ((1 ≤ kind) × (kind ≤ 4)) }
-    ensures { (result ≡ answered (step_answer t.old (action_named kind a b c)) (sent_by t.old (action_named kind a b c))) × (t.new ≡ step_after t.old (action_named kind a b c)) }
-{
-    match kind {
-        1 => spawn::spawn_task(t, a, b),
-        2 => opening::open_finish(t, a),
-        3 => ending::end_task(t, a),
-        _ => deliver::deliver_message(t, a),
+// The kinds, by number.
+impl Action {
+    pub const SPAWN: u8 = 1;
+
+    pub const OPEN: u8 = 2;
+
+    pub const END: u8 = 3;
+
+    pub const DELIVER: u8 = 4;
+
+    pub const KILL: u8 = 5;
+
+    pub const ADOPT: u8 = 6;
+
+    pub const CANCEL: u8 = 7;
+
+    pub const ASK: u8 = 8;
+
+    pub const BEGIN: u8 = 9;
+}
+
+// The table of kinds; an operand shown as 0 must be 0.
+impl TryFrom<[u8; Tables::RECORD]> for Action {
+    type Error = Refusal;
+
+    ghost try_from_gives = { ActionFrom };
+
+    #[tactic(auto, unfolding(rules::specs::Action::action_of, rules::specs::Action::action_named, rules::specs::Action::only0))]
+    fn try_from(bytes: [u8; Tables::RECORD]) -> Result<Self, Refusal> {
+        match bytes {
+            [Action::SPAWN, task, place, 0] => Ok(Action::Spawn { task, place }),
+            [Action::OPEN, task, 0, 0] => Ok(Action::Open { task }),
+            [Action::END, task, 0, 0] => Ok(Action::End { task }),
+            [Action::DELIVER, slot, 0, 0] => Ok(Action::Deliver { slot }),
+            [Action::KILL, place, 0, 0] => Ok(Action::Kill { place }),
+            [Action::ADOPT, finish, 0, 0] => Ok(Action::Adopt { finish }),
+            [Action::CANCEL, finish, dead_place, 0] => Ok(Action::Cancel { finish, dead_place }),
+            [Action::ASK, finish, dead_place, live_place] => Ok(Action::Ask {
+                finish,
+                dead_place,
+                live_place,
+            }),
+            [Action::BEGIN, places, 0, 0] => Ok(Action::Begin {
+                places: u32::from(places),
+            }),
+            _ => Err(Refusal::NoAction),
+        }
     }
 }
 
-// Kinds 5 to 8: the loss of a place, and its repair.
-fn loss_action(t: &mut [u8], kind: u8, a: u8, b: u8, c: u8) -> Answer
-    requires whole { Whole t.old }
-    requires ranges { sound t.old ≡ true }
-    requires named { (no_action (action_named kind a b c) ≡ false) × ((4 < kind) × (kind < 9)) }
-    ensures { (result ≡ answered (step_answer t.old (action_named kind a b c)) (sent_by t.old (action_named kind a b c))) × (t.new ≡ step_after t.old (action_named kind a b c)) }
-{
-    match kind {
-        5 => kill::kill_place(t, a),
-        6 => adopt::adopt_orphans(t, a),
-        7 => cancel::cancel_column(t, a, b),
-        _ => ask::ask_dropped(t, a, b, c),
+// The record of an action, by the same table.
+impl From<Action> for [u8; Tables::RECORD] {
+    ghost from_gives = { λ action bytes. bytes ≡ record_of action };
+
+    fn from(action: Action) -> [u8; Tables::RECORD] {
+        match action {
+            Action::Spawn { task, place } => [Action::SPAWN, task, place, 0],
+            Action::Open { task } => [Action::OPEN, task, 0, 0],
+            Action::End { task } => [Action::END, task, 0, 0],
+            Action::Deliver { slot } => [Action::DELIVER, slot, 0, 0],
+            Action::Kill { place } => [Action::KILL, place, 0, 0],
+            Action::Adopt { finish } => [Action::ADOPT, finish, 0, 0],
+            Action::Cancel { finish, dead_place } => [Action::CANCEL, finish, dead_place, 0],
+            Action::Ask {
+                finish,
+                dead_place,
+                live_place,
+            } => [Action::ASK, finish, dead_place, live_place],
+            Action::Begin { places } => [Action::BEGIN, places.min(255) as u8, 0, 0],
+        }
     }
 }
 
-// Every kind but begin, on sound tables.
-fn sound_action(t: &mut [u8], kind: u8, a: u8, b: u8, c: u8) -> Answer
-    requires whole { Whole t.old }
-    requires ranges { sound t.old ≡ true }
-    requires named { (no_action (action_named kind a b c) ≡ false) × ((1 ≤ kind) × (kind < 9)) }
-    ensures { (result ≡ answered (step_answer t.old (action_named kind a b c)) (sent_by t.old (action_named kind a b c))) × (t.new ≡ step_after t.old (action_named kind a b c)) }
+// The tables break a sound range; a begin needs no sound ones.
+#[tactic(auto, unfolding(rules::specs::Refusals::unsound))]
+fn is_unsound(t: &SessionTables, action: Action) -> bool
+    ensures { result ≡ unsound t.now (asked action) }
 {
-    if kind <= 4 {
-        return task_action(t, kind, a, b, c);
+    match action {
+        Action::Begin { .. } => false,
+        _ => !sound::is_sound(t),
     }
-    loss_action(t, kind, a, b, c)
 }
 
-// Every kind but begin, after the range test.
-fn tested_action(t: &mut [u8], kind: u8, a: u8, b: u8, c: u8) -> u32
-    requires whole { Whole t.old }
-    requires named { (no_action (action_named kind a b c) ≡ false) × ((1 ≤ kind) × (kind < 9)) }
-    ensures { (result ≡ record_answer t.old (action_named kind a b c)) × (t.new ≡ record_after t.old (action_named kind a b c)) }
+// Takes the step of an action, or refuses it and changes nothing.
+#[tactic(auto, using(crate::proofs::Records::records, crate::proofs::Inside::few, sound::proofs::Use::finishes_most), unfolding(rules::specs::Refusals::no_action, rules::specs::Refusals::unsound))]
+pub fn act(t: &mut SessionTables, action: Action) -> Answer
+    ensures answer { number_of result ≡ record_answer t.old (asked action) }
+    ensures tables { t.new ≡ record_after t.old (asked action) }
 {
-    if sound::is_sound(t) {} else {
-        return 8;
+    if is_unsound(t, action) {
+        return Err(Refusal::Unsound);
     }
-    let done = sound_action(t, kind, a, b, c);
-    answers::number_of(done)
+    match action {
+        Action::Spawn { task, place } => spawn::spawn_task(t, task, place),
+        Action::Open { task } => opening::open_finish(t, task),
+        Action::End { task } => ending::end_task(t, task),
+        Action::Deliver { slot } => deliver::deliver_message(t, slot),
+        Action::Kill { place } => kill::kill_place(t, place),
+        Action::Adopt { finish } => adopt::adopt_orphans(t, finish),
+        Action::Cancel { finish, dead_place } => cancel::cancel_column(t, finish, dead_place),
+        Action::Ask {
+            finish,
+            dead_place,
+            live_place,
+        } => ask::ask_dropped(t, finish, dead_place, live_place),
+        Action::Begin { places } => opening::begin_session(t, places),
+    }
 }
 
-// Begin with n places; the tables need not be sound.
-pub fn begin_action(t: &mut [u8], n: u32) -> u32
-    requires { Whole t.old }
-    ensures { (result ≡ record_answer t.old (begin n)) × (t.new ≡ record_after t.old (begin n)) }
+// The same for the action that a record names.
+#[tactic(auto, using(crate::proofs::Records::unknown_says, crate::proofs::Records::unknown_keeps))]
+pub fn act_on(t: &mut SessionTables, bytes: [u8; Tables::RECORD]) -> Answer
+    ensures answer { number_of result ≡ record_answer t.old (action_of bytes) }
+    ensures tables { t.new ≡ record_after t.old (action_of bytes) }
 {
-    let done = opening::begin_session(t, n);
-    answers::number_of(done)
-}
-
-// The action of a record, or the number that refuses it.
-pub fn act(t: &mut [u8], kind: u8, a: u8, b: u8, c: u8) -> u32
-    requires { Whole t.old }
-    ensures { (result ≡ record_answer t.old (action_named kind a b c)) × (t.new ≡ record_after t.old (action_named kind a b c)) }
-{
-    if is_action(kind, b, c) {} else {
-        return 1;
-    }
-    if kind == 9 {
-        return begin_action(t, a as u32);
-    }
-    tested_action(t, kind, a, b, c)
+    act(t, Action::try_from(bytes)?)
 }

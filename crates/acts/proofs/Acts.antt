@@ -1,87 +1,100 @@
--- Loops over the rows of tasks: a level counted upwards, children counted, the lowest running task searched; a law for each way through
--- the loop's body.
+-- A task's level by its spawner's, its children counted from the first task on, and the first running task.
 use mathlib.Core.Path.{◌≡◌, refl, sym, ap, ◌∙◌}
 use mathlib.Core.Bool.{Bool, true, false, cond}
 use mathlib.Core.List.{List}
-use Prim.Native.Nat.{ℕ, suc, ◌+◌, ◌-◌, ◌%◌, ◌≤◌, ◌<◌}
-use native.Mathlib.Nat.{zero-add, mod-lt}
+use Prim.Native.Nat.{ℕ, zero, suc, ◌+◌, ◌-◌}
 use native.Mathlib.Omega.{arith}
-use borrow.Author.Tests.{eq-eqb, ne_eqb}
-use lib.Dec.{eqb}
+use borrow.Author.Tests.{eq-eqb, ne_eqb, le-leb, lt-leb}
+use lib.Dec.{eqb, leb}
+use lib.ListN.{length}
+use Rattle.std.proofs.Common.{Option, None, Some, option_map}
+use Rattle.std.proofs.lemmas.List.Sums.{sum_by-cons, length-filter}
+use Rattle.std.specs.List.{range_with_len, count_by, filter, find}
 use Rattle.tables.specs.Bits.{digit}
 use Rattle.rules.specs.Fields.{tasks_made, task_status, task_maker, running}
+use Rattle.fields.specs.Numbers.{given}
 use Rattle.plan.specs.Tree.{level_of, children_of}
-use Rattle.acts.specs.Acts.{spawner, lowest_running}
-use Rattle.acts.proofs.Search.{search_left, search_none, search_pass, search_stop, search_done}
+use Rattle.acts.specs.First.{first_from}
+use Rattle.acts.specs.Acts.{spawner, lowest_running, running_task}
 
--- ---- a level: `up` rows above are passed, and k is the task there
-unfoldable pub level_left : List ℕ → ℕ → ℕ → ℕ → ℕ
-level_left t n up k = up + level_of (spawner t) (n - up) k
+-- ---- a level, by its spawner's
+module _ (t : List ℕ) (k s : ℕ) (e : s ≡ task_maker t k) where
+  pub level_first : (n : ℕ) → n ≡ 0 → 1 ≡ level_of (spawner t) n k
+  unfolding level_of
+  level_first zero z = refl
+  level_first (suc n) z = absurd (omega arith)
 
-module _ (t : List ℕ) (n : ℕ) where
-  pub level_none : (k : ℕ) → level_left t n 0 k ≡ level_of (spawner t) n k
-  unfolding level_left
-  level_none k = let e : n - 0 ≡ n = omega arith in zero-add _ ∙ ap (λ (m : ℕ). level_of (spawner t) m k) e
+  pub level_top : (n : ℕ) → s ≡ 0 → 1 ≡ level_of (spawner t) n k
+  unfolding level_of
+  level_top zero z = refl
+  level_top (suc n) z = rw (eq-eqb (task_maker t k) 0 (sym e ∙ z)) refl
 
-  module _ (up k all : ℕ) (inv : level_left t n up k ≡ all) where
-    one_more : up < n → level_left t n up k ≡ up + cond (eqb (task_maker t k) 0) 1 (suc (level_of (spawner t) (n - (up + 1)) (task_maker t k)))
-    unfolding level_left level_of
-    one_more h = let m : n - up ≡ suc (n - (up + 1)) = omega arith in rw m
+  pub level_more : (n v : ℕ) → (n ≡ 0 → ⊥) → (s ≡ 0 → ⊥) → v ≡ level_of (spawner t) (n - 1) s → 1 + v ≡ level_of (spawner t) n k
+  unfolding level_of
+  level_more zero v z q h = absurd (z refl)
+  level_more (suc n) v z q h =
+      let m : suc n - 1 ≡ n = omega arith in
+      rw (ne_eqb (task_maker t k) 0 (λ i. q (e ∙ i)), ← e) (omega (arith, h, ap (λ (x : ℕ). level_of (spawner t) x s) m))
 
-    pub level_stop : (r : ℕ) → up < n → r ≡ task_maker t k → r ≡ 0 → up + 1 ≡ all
-    level_stop r h e z = sym (one_more h ∙ rw (eq-eqb (task_maker t k) 0 (sym e ∙ z)) refl) ∙ inv
-
-    pub level_pass : (r : ℕ) → up < n → r ≡ task_maker t k → (r ≡ 0 → ⊥) → level_left t n (up + 1) r ≡ all
-    unfolding level_left
-    level_pass r h e z =
-        let q : level_left t n up k ≡ up + suc (level_of (spawner t) (n - (up + 1)) (task_maker t k)) = one_more h ∙ rw (ne_eqb (task_maker t k) 0 (λ i. z (e ∙ i))) refl in
-        rw e (omega (arith, q, inv))
-
-    pub level_done : n ≤ up → up + 1 ≡ all
-    unfolding level_left level_of
-    level_done h = let m : n - up ≡ 0 = omega arith in rw m at inv
-
--- ---- children counted
+-- ---- children, counted from the first task on
 module _ (maker : ℕ → ℕ) (k : ℕ) where
-  pub children_none : 0 ≡ children_of maker 0 k
+  abbrev pub spawned : ℕ → Bool
+  spawned j = eqb (maker j) k
+
+  abbrev counted : ℕ → ℕ → ℕ
+  counted i n = count_by spawned (range_with_len i n)
+
+  one : ℕ → ℕ
+  one j = cond (spawned j) 1 0
+
+  one_lem : (j : ℕ) → one j ≡ digit (spawned j)
+  unfolding one
+  one_lem j = go (spawned j)
+    where
+      go : (b : Bool) → cond b 1 0 ≡ digit b
+      go true = refl
+      go false = refl
+
+  front : (i n : ℕ) → counted i (suc n) ≡ one i + counted (i + 1) n
+  unfolding one
+  front i n = sum_by-cons (λ (j : ℕ). cond (spawned j) 1 0) i (range_with_len (i + 1) n)
+
+  back : (n i : ℕ) → counted i (suc n) ≡ counted i n + one (i + n)
+  back zero i = let e : i + 0 ≡ i = omega arith in rw e (omega (arith, front i 0))
+  back (suc n) i = let e : i + suc n ≡ i + 1 + n = omega arith in rw e (omega (arith, front i (suc n), front i n, back n (i + 1)))
+
+  all_counted : (n : ℕ) → counted 1 n ≡ children_of maker n k
   unfolding children_of
-  children_none = refl
+  all_counted zero = refl
+  all_counted (suc n) = let e : 1 + n ≡ suc n = omega arith in omega (arith, back n 1, ap one e, one_lem (suc n), all_counted n)
 
-  pub children_more : (j c d : ℕ) → d ≡ digit (eqb (maker (j + 1)) k) → c ≡ children_of maker j k → c + d ≡ children_of maker (j + 1) k
-  unfolding children_of
-  children_more j c d e inv =
-      let m : j + 1 ≡ suc j = omega arith in
-      let q : children_of maker (suc j) k ≡ digit (eqb (maker (j + 1)) k) + children_of maker j k = rw m refl in
-      rw m (omega (arith, e, inv, q))
+  pub children_counted : (n : ℕ) → length (filter spawned (range_with_len 1 n)) ≡ children_of maker n k
+  children_counted n = length-filter spawned (range_with_len 1 n) ∙ all_counted n
 
-  pub children_done : (n j c : ℕ) → n ≤ j → j ≤ n → c ≡ children_of maker j k → c ≡ children_of maker n k
-  children_done n j c h l inv = let e : j ≡ n = omega arith in inv ∙ ap (λ (m : ℕ). children_of maker m k) e
+-- ---- the first of n numbers of which a test holds
+module _ (p : ℕ → Bool) (m : ℕ) where
+  found_first : (n i : ℕ) → i + n ≡ suc m → find p (range_with_len i n) ≡ given (leb (first_from p i n) m) (first_from p i n)
+  unfolding first_from
+  found_first zero i e = rw (lt-leb i m (omega arith)) refl
+  found_first (suc n) i e =
+      let a : i + 1 ≡ suc i = omega arith in
+      rw (a, found_first n (suc i) (omega arith)) (go (p i))
+    where
+      x : ℕ
+      x = first_from p (suc i) n
 
--- ---- the lowest running task, after j that do not run
+      go : (b : Bool) → cond b (Some i) (given (leb x m) x) ≡ given (leb (cond b i x) m) (cond b i x)
+      go true = rw (le-leb i m (omega arith)) refl
+      go false = refl
+
 module _ (t : List ℕ) where
-  abbrev runs : ℕ → Bool
+  abbrev pub runs : ℕ → Bool
   runs k = eqb (task_status t k) running
 
-  unfoldable pub running_left : ℕ → ℕ
-  running_left j = search_left runs 1 (tasks_made t) j
-
-  pub running_none : running_left 0 ≡ lowest_running t
-  unfolding running_left lowest_running
-  running_none = search_none runs 1 (tasks_made t)
-
-  module _ (n : ℕ) (made : n ≡ tasks_made t) (j all : ℕ) (inv : running_left j ≡ all) where
-    pub running_pass : (v : Bool) → j < n → v ≡ eqb (task_status t (1 + j)) running → v ≡ false → running_left (j + 1) ≡ all
-    unfolding running_left
-    running_pass v h e z = search_pass runs 1 (tasks_made t) j all (omega arith) (sym e ∙ z) inv
-
-    pub running_stop : (v : Bool) → j < n → v ≡ eqb (task_status t (1 + j)) running → v ≡ true → 1 + j ≡ all
-    unfolding running_left
-    running_stop v h e z = search_stop runs 1 (tasks_made t) j all (omega arith) (sym e ∙ z) inv
-
-    pub running_done : n ≤ j → j ≤ n → 1 + n ≡ all
-    unfolding running_left
-    running_done h l = let e : 1 + n ≡ 1 + tasks_made t = omega arith in e ∙ search_done runs 1 (tasks_made t) j all (omega arith) (omega arith) inv
-
--- ---- a place by remainder is a byte
-pub place-fits : (x places : ℕ) → 1 ≤ places → places ≤ 8 → x % places < 256
-place-fits x places h l = omega (arith, mod-lt x h)
+  pub found_running : (o : Option ℕ) → option_map (λ k. k) o ≡ find runs (range_with_len 1 (tasks_made t)) → o ≡ running_task t
+  unfolding running_task lowest_running
+  found_running o e = same o ∙ e ∙ found_first runs (tasks_made t) (tasks_made t) 1 (omega arith)
+    where
+      same : (o : Option ℕ) → o ≡ option_map (λ k. k) o
+      same None = refl
+      same (Some k) = refl

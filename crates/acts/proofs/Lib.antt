@@ -1,2 +1,1 @@
-pub mod Search
-mod Acts
+pub mod Acts

@@ -1,3 +1,2 @@
 pub mod Orphans
 pub mod Marks
-pub mod Taken

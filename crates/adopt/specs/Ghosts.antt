@@ -1,14 +1,7 @@
--- The ghosts of f after an adopt: each mark, and the four bytes.
-use Rattle.std.specs.Prelude.{Bool, List, [], ◌∷◌, ℕ, ◌+◌, ◌*◌}
-use Rattle.tables.specs.Bits.{bit_at}
-use Rattle.tables.specs.Walks.{some_of}
+-- The ghosts of f after an adopt, all four bytes.
+use Rattle.std.specs.Prelude.{List, [], ◌∷◌, ℕ}
 use Rattle.rules.specs.Fields.{ghost_byte}
-use Rattle.rules.specs.Books.{book_of}
-use Rattle.rules.specs.Adopt.{orphan, with_ghosts}
-
--- mark j of byte k, which was old
-unfoldable pub is_ghost : List ℕ → ℕ → ℕ → ℕ → ℕ → Bool
-is_ghost t f k old j = some_of (bit_at old j ∷ orphan t f (book_of t (8 * k + j + 1)) (8 * k + j + 1) ∷ [])
+use Rattle.rules.specs.Adopt.{with_ghosts}
 
 unfoldable pub new_ghosts : List ℕ → ℕ → List ℕ
 new_ghosts t f =

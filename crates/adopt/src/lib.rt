@@ -1,175 +1,113 @@
 // The step adopt: books with a dead home become ghosts of their parent, and when that is refused.
 #![tactic(auto)]
 
-ghost use Rattle.std.specs.Prelude.{◌≡◌, [], ◌∷◌, ◌+◌, ◌≤◌, ◌<◌, eqb, length, set};
-ghost use Rattle.tables.specs.Bytes.{part, write};
-ghost use Rattle.tables.specs.Bits.{digit, marked};
-ghost use Rattle.tables.specs.Walks.{every, change_parts};
-ghost use Rattle.tables.specs.Layout.{Whole};
-ghost use Rattle.rules.specs.Fields.{finishes_made};
+ghost use Rattle.std.specs.Prelude.{◌≡◌, ◌+◌, ◌≤◌, ◌<◌, IfOk};
+ghost use Rattle.tables.specs.Walks.{change_parts};
+ghost use Rattle.rules.specs.Fields.{finishes_made, ghost_byte};
 ghost use Rattle.rules.specs.Action.{adopt};
 ghost use Rattle.rules.specs.Adopt.{orphan, adopt_book, with_ghosts, adopt_step};
 ghost use Rattle.rules.specs.Refusals.{step_answer};
 ghost use Rattle.rules.specs.Step.{step_after};
 ghost use Rattle.rules.specs.Sent.{sent_by};
-ghost use Rattle.answers.specs.Answers.{answered};
-ghost use Rattle.adopt.specs.Ghosts.{is_ghost, new_ghosts};
+ghost use Rattle.answers.specs.Answers.{number_of, Answered};
+ghost use Rattle.adopt.specs.Ghosts.{new_ghosts};
 
-use answers::Answer;
-use tables::{Tables, wide};
+use answers::{Answer, Refusal};
+use square::Book;
+use std::array;
+use tables::{Finish, SessionTables, Tables};
 
-fn is_orphan(f: u8, present: u8, adopted: u8, parent: u8, dead: u8, home: u8) -> bool
-    ensures { result ≡ every (eqb present 1 ∷ eqb adopted 0 ∷ eqb parent f ∷ marked dead home ∷ []) }
+// Book b, of finish g, is an orphan of f: present and not adopted, f its parent and its home dead.
+#[tactic(auto, unfolding(rules::specs::Adopt::orphan, tables::specs::Walks::every))]
+fn is_orphan(t: &SessionTables, b: &Book, f: Finish, g: Finish) -> bool
+    ensures { result ≡ orphan t.now f b.now g }
 {
-    if present != 1 {
-        return false;
-    }
-    if adopted != 0 {
-        return false;
-    }
-    if parent != f {
-        return false;
-    }
-    tables::is_marked(dead, home)
+    b[Tables::PRESENT] == 1
+        && b[Tables::ADOPTED] == 0
+        && b[Tables::PARENT] == f.number()
+        && fields::home_dead(t, g.number())
 }
 
-fn is_orphan_at(t: &[u8], f: u8, at: usize, g: usize) -> bool
-    requires whole { Whole t.now }
-    requires inside { at + 144 ≤ 15104 }
-    requires in_range { (1 ≤ g) × (g ≤ 32) }
-    ensures { result ≡ orphan t.now f (part t.now at 144) g }
+// Byte k of the ghosts of f, with each orphan of f marked.
+#[tactic(auto, unfolding(rules::specs::Adopt::with_ghosts, rules::specs::Books::book_of))]
+fn with_ghosts(t: &SessionTables, f: Finish, k: u8) -> u8
+    requires { k < 4 }
+    ensures { result ≡ with_ghosts t.now f k (ghost_byte t.now f k) }
 {
-    let h = Tables::finish(g);
-    is_orphan(f, t[at], t[at + 3], t[at + 1], t[1], t[h])
-}
-
-fn is_ghost(t: &[u8], f: u8, k: usize, old: u8, j: u8) -> bool
-    requires whole { Whole t.now }
-    requires in_range { (k < 4) × (j < 8) }
-    ensures { result ≡ is_ghost t.now f k old j }
-{
-    if tables::is_marked(old, j) {
-        return true;
+    let mut marks = counts::book_byte(t, f, 4 + usize::from(k));
+    for j in 0..8 {
+        let g = Finish::new(8 * k + j + 1);
+        if is_orphan(t, tables::part(t, Tables::book(g)), f, g) {
+            marks = tables::with_mark(marks, j);
+        }
     }
-    let g = Tables::PLACES * k + wide(j) + 1;
-    is_orphan_at(t, f, Tables::book(g), g)
+    marks
 }
 
-fn ghost_digit(t: &[u8], f: u8, k: usize, old: u8, j: u8) -> u8
-    requires whole { Whole t.now }
-    requires in_range { (k < 4) × (j < 8) }
-    ensures { (result ≡ digit (is_ghost t.now f k old j)) × (result ≤ 1) }
-{
-    if is_ghost(t, f, k, old, j) {
-        return 1;
-    }
-    0
-}
-
-fn with_ghosts(t: &[u8], f: u8, k: usize, old: u8) -> u8
-    requires whole { Whole t.now }
-    requires in_range { k < 4 }
-    ensures { result ≡ with_ghosts t.now f k old }
-{
-    let b0 = ghost_digit(t, f, k, old, 0);
-    let b1 = ghost_digit(t, f, k, old, 1);
-    let b2 = ghost_digit(t, f, k, old, 2);
-    let b3 = ghost_digit(t, f, k, old, 3);
-    let b4 = ghost_digit(t, f, k, old, 4);
-    let b5 = ghost_digit(t, f, k, old, 5);
-    let b6 = ghost_digit(t, f, k, old, 6);
-    let b7 = ghost_digit(t, f, k, old, 7);
-    b0 + 2 * b1 + 4 * b2 + 8 * b3 + 16 * b4 + 32 * b5 + 64 * b6 + 128 * b7
-}
-
-fn new_ghosts(t: &[u8], f: u8) -> [u8; 4]
-    requires whole { Whole t.now }
-    requires in_range { (1 ≤ f) × (f ≤ 32) }
+// The ghosts of f, with each orphan of f marked.
+#[tactic(auto, unfolding(crate::specs::Ghosts::new_ghosts))]
+fn new_ghosts(t: &SessionTables, f: Finish) -> [u8; 4]
     ensures { result ≡ new_ghosts t.now f }
 {
-    let a = Tables::book(wide(f));
-    let g0 = with_ghosts(t, f, 0, t[a + 4]);
-    let g1 = with_ghosts(t, f, 1, t[a + 5]);
-    let g2 = with_ghosts(t, f, 2, t[a + 6]);
-    let g3 = with_ghosts(t, f, 3, t[a + 7]);
-    [g0, g1, g2, g3]
+    array::from_fn(|k| with_ghosts(t, f, k as u8))
 }
 
-fn adopt_book(t: &mut [u8], f: u8, at: usize, g: usize)
-    requires whole { Whole t.old }
-    requires inside { at + 144 ≤ 15104 }
-    requires in_range { (1 ≤ g) × (g ≤ 32) }
-    ensures { t.new ≡ write t.old at (adopt_book t.old f (part t.old at 144) g) }
+// Book b, of finish g, becomes adopted where it is an orphan of f.
+#[tactic(auto, unfolding(rules::specs::Adopt::adopt_book))]
+fn adopt_book(t: &SessionTables, b: &mut Book, f: Finish, g: Finish)
+    ensures { b.new ≡ adopt_book t.now f b.old g }
 {
-    if is_orphan_at(t, f, at, g) {
-        t[at + 3] = 1;
-        return;
+    if is_orphan(t, b, f, g) {
+        b[Tables::ADOPTED] = 1;
     }
 }
 
-fn adopt_books(t: &mut [u8], f: u8)
-    requires { Whole t.old }
+// Each orphan of f becomes adopted.
+fn adopt_books(t: &mut SessionTables, f: Finish)
     ensures { t.new ≡ change_parts (adopt_book t.old f) 144 1 32 2304 t.old }
 {
-    let mut j: usize = 0;
-    while j < 32 {
-        adopt_book(t, f, Tables::book(1 + j), 1 + j);
-        j += 1;
-    }
-}
-
-fn clear_due(t: &mut [u8], a: usize)
-    requires { a + 144 ≤ length t.old }
-    ensures { t.new ≡ set t.old (a + 2) 0 }
-{
-    t[a + 2] = 0;
+    let at = Tables::ROW * Tables::FIRST_BOOK;
+    walk::change_parts(
+        t,
+        at,
+        Tables::FINISHES,
+        |t, b, j| adopt_book(t, b, f, Finish::new(1 + j as u8)),
+    );
 }
 
 // Finish f adopts.
-fn adopt(t: &mut [u8], f: u8)
-    requires whole { Whole t.old }
-    requires in_range { (1 ≤ f) × (f ≤ 32) }
+#[tactic(auto, unfolding(rules::specs::Adopt::adopt_step, crate::specs::Ghosts::new_ghosts))]
+fn adopt(t: &mut SessionTables, f: Finish)
     ensures { t.new ≡ adopt_step t.old f }
 {
-    let a = Tables::book(wide(f));
     let ghosts = new_ghosts(t, f);
     adopt_books(t, f);
-    tables::put_part(t, a + 4, &ghosts);
-    clear_due(t, a);
+    tables::put_part(t, Tables::book(f) + Tables::GHOSTS, &ghosts);
+    counts::put_book_byte(t, f, Tables::ADOPT_DUE, 0);
 }
 
-// Why f may not adopt; 0: it may.
-fn adopt_refusal(t: &[u8], f: u8) -> u8
-    requires whole { Whole t.now }
-    requires counts { finishes_made t.now ≤ 32 }
-    ensures { result ≡ step_answer t.now (adopt f) }
+// The finish of this number, or why it may not adopt.
+#[tactic(auto, unfolding(rules::proofs::Checks::refusal_tests))]
+fn check_adopt(t: &SessionTables, f: u8) -> Result<Finish, Refusal>
+    requires { finishes_made t.now ≤ 32 }
+    ensures answer { number_of result ≡ step_answer t.now (adopt f) }
+    ensures named { IfOk result (λ g. g ≡ f) }
 {
-    if f < 1 {
-        return 2;
+    let g = fields::made_finish(t, f).ok_or(Refusal::NotThere)?;
+    if counts::book_absent(t, g) || counts::book_byte(t, g, Tables::ADOPT_DUE) == 0 {
+        return Err(Refusal::NotReady);
     }
-    if t[3] < f {
-        return 2;
-    }
-    let a = Tables::book(wide(f));
-    if t[a] == 0 {
-        return 4;
-    }
-    if t[a + 2] == 0 {
-        return 4;
-    }
-    0
+    Ok(g)
 }
 
 // Finish f adopts, or the adopt is refused and nothing changes.
-pub fn adopt_orphans(t: &mut [u8], f: u8) -> Answer
-    requires whole { Whole t.old }
-    requires counts { finishes_made t.old ≤ 32 }
-    ensures { (result ≡ answered (step_answer t.old (adopt f)) (sent_by t.old (adopt f))) × (t.new ≡ step_after t.old (adopt f)) }
+#[tactic(auto, unfolding(rules::specs::Step::step, rules::specs::Sent::sent_by))]
+pub fn adopt_orphans(t: &mut SessionTables, f: u8) -> Answer
+    requires { finishes_made t.old ≤ 32 }
+    ensures answer { Answered result (step_answer t.old (adopt f)) (sent_by t.old (adopt f)) }
+    ensures tables { t.new ≡ step_after t.old (adopt f) }
 {
-    let no = adopt_refusal(t, f);
-    if no != 0 {
-        return Answer::Refused(no);
-    }
-    adopt(t, f);
-    Answer::Done(0)
+    let g = check_adopt(t, f)?;
+    adopt(t, g);
+    Ok(None)
 }

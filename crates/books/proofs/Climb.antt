@@ -92,8 +92,10 @@ enough t falls (suc n) (suc m) f h k l =
     go false e rest =
         climb t n f false e ∙ rest (λ z. true≢false (sym (stops_none t) ∙ ap (climb_stops t) (sym z) ∙ e)) ∙ sym (climb t m f false e)
 
-pub climb_none : (t : List ℕ) (f : ℕ) → f ≡ 0 → 0 ≡ nearest t 32 f
-climb_none t f e = sym (at_none t 32 f e)
+-- a number that names no finish is 0 here
+pub climb_none : (t : List ℕ) (f : ℕ) → ParentsFall t → f ≤ finishes_made t → ¬ ((1 ≤ f) × (f ≤ 32)) → 0 ≡ nearest t 32 f
+climb_none t zero falls l out = sym (at_none t 32 0 refl)
+climb_none t (suc f) falls l out = let most = made_low t (suc f) falls l in absurd (out (omega arith, most))
 
 pub climb_here : (t : List ℕ) (f v : ℕ) → v ≡ present t f → v ≡ 1 → f ≡ nearest t 32 f
 climb_here t f v e h = sym (climb t 31 f true (stops_here t f (sym e ∙ h)))
@@ -104,3 +106,5 @@ climb_on t f v q r falls l h e g p b inv =
     let most = made_low t f falls l in
     inv ∙ enough t falls 32 31 q (omega arith) (omega arith) (omega arith) ∙ ap (nearest t 31) p
     ∙ sym (climb t 31 f false (goes_on_lem t f h (λ z. g (e ∙ z))))
+
+pub ruleset climbs = (made_low, climb_none, climb_here, climb_on)

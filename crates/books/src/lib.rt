@@ -1,146 +1,136 @@
-// The store book of a finish, a part from the middle of the session tables: lent on to be tested or written, and found from a finish upwards.
+// The store book of a finish in the session tables: read, tested, changed and written back, and found from a finish upwards.
 #![tactic(auto)]
 
-ghost use Rattle.std.specs.Prelude.{◌≡◌, ◌≤◌, ◌<◌};
-ghost use Rattle.tables.specs.Layout.{Whole};
-ghost use Rattle.rules.specs.Fields.{dead_mask, present, parent, finishes_made};
-ghost use Rattle.rules.specs.Books.{book_of, with_book, column, lowered_column, under_repair};
+ghost use Rattle.std.specs.Prelude.{◌≡◌, ◌≤◌, ◌<◌, length};
+ghost use Rattle.rules.specs.Fields.{dead_mask, parent, finishes_made};
+ghost use Rattle.rules.specs.Books.{book_of, with_book, column, cleared_column, lowered_column, under_repair};
 ghost use Rattle.rules.specs.Closing.{closes, without_book};
 ghost use Rattle.rules.specs.Cancel.{cancelled};
 ghost use Rattle.rules.specs.Deliver.{lowers, new_book, nearest};
 ghost use Rattle.books.specs.Parents.{ParentsFall};
 
-use tables::Tables;
+use fields::FinishField;
+use square::Book;
+use tables::{Finish, Place, SessionTables, Tables};
+
+// The book of f, still lent.
+#[tactic(auto, using(crate::proofs::Places::book_there))]
+pub fn book(t: &SessionTables, f: Finish) -> &Book
+    ensures { result.now ≡ book_of t.now f }
+{
+    tables::part(t, Tables::book(f))
+}
+
+// The book of f becomes b.
+#[tactic(auto, using(crate::proofs::Places::book_put))]
+fn put_book(t: &mut SessionTables, f: Finish, b: &Book)
+    ensures { t.new ≡ with_book t.old f b.now }
+{
+    tables::put_part(t, Tables::book(f), b);
+}
+
+// Column v of a book that is lent as a part of the tables becomes 0.
+fn clear_in(part: &mut [u8], v: Place)
+    requires { length part.old ≡ 144 }
+    ensures cleared { part.new ≡ cleared_column part.old v }
+    ensures whole { length part.new ≡ 144 }
+{
+    if let Some(b) = part.as_mut_array() {
+        square::clear_column(b, v);
+    }
+}
+
+// Column v of a book that is lent as a part of the tables is lowered by the counts.
+fn lower_in(part: &mut [u8], v: Place, counts: [u8; 8])
+    requires { length part.old ≡ 144 }
+    ensures lowered { part.new ≡ lowered_column part.old v counts }
+    ensures whole { length part.new ≡ 144 }
+{
+    if let Some(b) = part.as_mut_array() {
+        square::lower_column(b, v, counts);
+    }
+}
 
 // Column v of the book of f becomes 0.
-pub fn cancel_column(t: &mut [u8], f: usize, v: usize)
-    requires whole { Whole t.old }
-    requires in_range { ((1 ≤ f) × (f ≤ 32)) × (v < 8) }
+pub fn cancel_column(t: &mut SessionTables, f: Finish, v: Place)
     ensures { t.new ≡ cancelled t.old f v }
 {
     let a = Tables::book(f);
-    let e = a + 144;
-    square::clear_column(&mut t[a..e], v);
+    clear_in(&mut t[a..a + Tables::BOOK_BYTES], v);
 }
 
 // Column v of the book of f is lowered by the counts.
-pub fn lower_book(t: &mut [u8], f: usize, v: usize, counts: [u8; 8])
-    requires whole { Whole t.old }
-    requires in_range { ((1 ≤ f) × (f ≤ 32)) × (v < 8) }
+pub fn lower_book(t: &mut SessionTables, f: Finish, v: Place, counts: [u8; 8])
     ensures { t.new ≡ with_book t.old f (lowered_column (book_of t.old f) v counts) }
 {
     let a = Tables::book(f);
-    let e = a + 144;
-    square::lower_column(&mut t[a..e], v, counts);
+    lower_in(&mut t[a..a + Tables::BOOK_BYTES], v, counts);
 }
 
 // The book of f is new: home h, parent q.
-pub fn new_book(t: &mut [u8], f: usize, h: usize, q: u8)
-    requires whole { Whole t.old }
-    requires in_range { ((1 ≤ f) × (f ≤ 32)) × (h < 8) }
+pub fn new_book(t: &mut SessionTables, f: Finish, h: Place, q: u8)
     ensures { t.new ≡ with_book t.old f (new_book h q) }
 {
-    let a = Tables::book(f);
-    let e = a + 144;
-    square::write_new(&mut t[a..e], h, q);
+    put_book(t, f, &square::new_book(h, q));
 }
 
 // The book of f becomes 0.
-pub fn clear_book(t: &mut [u8], f: usize)
-    requires whole { Whole t.old }
-    requires in_range { (1 ≤ f) × (f ≤ 32) }
+pub fn clear_book(t: &mut SessionTables, f: Finish)
     ensures { t.new ≡ without_book t.old f }
 {
-    tables::clear_part(t, Tables::book(f), 144);
+    tables::clear_part(t, Tables::book(f), Tables::BOOK_BYTES);
 }
 
 // The closing test of the book of f.
-pub fn book_closes(t: &[u8], f: usize) -> bool
-    requires whole { Whole t.now }
-    requires in_range { (1 ≤ f) × (f ≤ 32) }
+pub fn book_closes(t: &SessionTables, f: Finish) -> bool
     ensures { result ≡ closes (book_of t.now f) }
 {
-    let a = Tables::book(f);
-    let e = a + 144;
-    square::closes(&t[a..e])
+    square::closes(book(t, f))
 }
 
 // The book of f is under repair.
-pub fn in_repair(t: &[u8], f: usize) -> bool
-    requires whole { Whole t.now }
-    requires in_range { (1 ≤ f) × (f ≤ 32) }
+pub fn in_repair(t: &SessionTables, f: Finish) -> bool
     ensures { result ≡ under_repair (dead_mask t.now) (book_of t.now f) }
 {
-    let a = Tables::book(f);
-    let e = a + 144;
-    let d = t[1];
-    repair::under_repair(&t[a..e], d)
-}
-
-// The same for a finish number as it stands in the tables.
-pub fn repairing(t: &[u8], f: u8) -> bool
-    requires whole { Whole t.now }
-    requires in_range { (1 ≤ f) × (f ≤ 32) }
-    ensures { result ≡ under_repair (dead_mask t.now) (book_of t.now f) }
-{
-    in_repair(t, f as usize)
+    repair::under_repair(book(t, f), t[Tables::DEAD_MASK])
 }
 
 // The live counts of the book of f at place v, summed.
-pub fn book_column(t: &[u8], f: usize, v: usize) -> u32
-    requires whole { Whole t.now }
-    requires in_range { ((1 ≤ f) × (f ≤ 32)) × (v < 8) }
+pub fn book_column(t: &SessionTables, f: Finish, v: Place) -> u32
     ensures { result ≡ column (book_of t.now f) v }
 {
-    let a = Tables::book(f);
-    let e = a + 144;
-    square::column_of(&t[a..e], v)
+    square::column_of(book(t, f), v)
 }
 
 // The counts lower column v of the book of f.
-pub fn book_lowers(t: &[u8], f: usize, v: usize, counts: [u8; 8]) -> bool
-    requires whole { Whole t.now }
-    requires in_range { ((1 ≤ f) × (f ≤ 32)) × (v < 8) }
+pub fn book_lowers(t: &SessionTables, f: Finish, v: Place, counts: [u8; 8]) -> bool
     ensures { result ≡ lowers (book_of t.now f) v counts }
 {
-    let a = Tables::book(f);
-    let e = a + 144;
-    square::lowers(&t[a..e], v, counts)
+    square::lowers(book(t, f), v, counts)
 }
 
-fn present_of(t: &[u8], f: u8) -> u8
-    requires whole { Whole t.now }
-    requires in_range { (1 ≤ f) × (f ≤ 32) }
-    ensures { result ≡ present t.now f }
-{
-    let a = Tables::book(f as usize);
-    t[a]
-}
-
-fn parent_of(t: &[u8], f: u8) -> u8
-    requires whole { Whole t.now }
+// The finish that f is nested in, 0 if none.
+#[tactic(auto, using(crate::proofs::Climb::parent_read))]
+fn parent_of(t: &SessionTables, f: Finish) -> u8
     requires parents_fall { ParentsFall t.now }
-    requires made { (1 ≤ f) × (f ≤ finishes_made t.now) }
+    requires made { f ≤ finishes_made t.now }
     ensures { (result ≡ parent t.now f) × (result < f) }
 {
-    let a = Tables::finish(f as usize);
-    t[a + 2]
+    t[Tables::finish(f.number()) + FinishField::Parent as usize]
 }
 
 // Finish f or its nearest ancestor with a store book, 0 if none.
-pub fn nearest_book(t: &[u8], f: u8) -> u8
-    requires whole { Whole t.now }
+#[tactic(auto, using(crate::proofs::Climb::climbs))]
+pub fn nearest_book(t: &SessionTables, f: u8) -> u8
     requires parents_fall { ParentsFall t.now }
     requires made { f ≤ finishes_made t.now }
     ensures { result ≡ nearest t.now 32 f }
 {
-    if f == 0 {
+    let Ok(finish) = Finish::try_from(f) else {
         return 0;
-    }
-    let there = present_of(t, f);
-    if there == 1 {
+    };
+    if t[Tables::book(finish)] == 1 {
         return f;
     }
-    let q = parent_of(t, f);
-    nearest_book(t, q)
+    nearest_book(t, parent_of(t, finish))
 }

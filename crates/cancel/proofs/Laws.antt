@@ -5,40 +5,23 @@ use mathlib.Core.Logic.{inl}
 use mathlib.Core.List.{List, [], ◌∷◌, ◌++◌, append_assoc}
 use Prim.Native.Nat.{ℕ, ◌+◌, ◌≤◌, ◌<◌}
 use native.Mathlib.Omega.{arith}
-use borrow.Author.Tests.{leb-true, ltb-true}
-use lib.Dec.{eqb, leb}
+use lib.Dec.{eqb}
 use lib.ListN.{length, take, drop}
 use lib.Seq.{length-take-le, take-append_seam, drop-append_seam}
 use Rattle.tables.specs.Bytes.{byte, part, write}
 use Rattle.tables.specs.Walks.{every, some_of}
 use Rattle.tables.specs.Layout.{Whole, place, finish_row, book_row}
-use Rattle.tables.proofs.Walks.{every_each}
 use Rattle.tables.proofs.Writes.{write_mid, length_part, byte-part, byte-write_in, byte-write_out}
 use Rattle.tables.proofs.Changes.{byte_change_out}
-use Rattle.rules.specs.Fields.{places, finishes_made, finish_made, in_session, dead_mask, dead, home, is_adopted, book_place}
+use Rattle.rules.specs.Fields.{dead_mask, dead, home, is_adopted, book_place}
 use Rattle.rules.specs.Action.{cancel}
 use Rattle.rules.specs.Books.{book_of, with_book, clear_row, cleared_column}
 use Rattle.rules.specs.Messages.{slots_full}
 use Rattle.rules.specs.Closing.{closes, closed_book, closing_test, closing_sends}
 use Rattle.rules.specs.Cancel.{cancelled}
-use Rattle.rules.specs.Refusals.{not_there, no_room, step_answer}
-use Rattle.rules.proofs.Taken.{step-taken, not-not}
+use Rattle.rules.specs.Refusals.{no_room, step_answer}
+use Rattle.rules.proofs.Taken.{step-taken}
 use Rattle.square.proofs.Columns.{clear_keeps, cleared_length}
-
-module _ (t : List ℕ) (few : (places t ≤ 8) × (finishes_made t ≤ 32)) (f v : ℕ) where
-  pub cancel_ranges : every (finish_made t f ∷ in_session t v ∷ []) ≡ true → ((1 ≤ f) × (f ≤ 32)) × (v < 8)
-  unfolding finish_made in_session
-  cancel_ranges h =
-      let e = every_each (finish_made t f ∷ in_session t v ∷ []) h in
-      let made = every_each (leb 1 f ∷ leb f (finishes_made t) ∷ []) e.0 in
-      let low = leb-true 1 f made.0 in
-      let high = leb-true f (finishes_made t) made.1.0 in
-      let inside = ltb-true v (places t) e.1.0 in
-      ((low, omega arith), omega arith)
-
-  pub cancel-taken : step_answer t (cancel f v) ≡ 0 → ((1 ≤ f) × (f ≤ 32)) × (v < 8)
-  unfolding not_there
-  cancel-taken h = cancel_ranges (not-not _ (step-taken t (cancel f v) h).there)
 
 pub cancel_room : (t : List ℕ) (f v : ℕ) → step_answer t (cancel f v) ≡ 0 → every (closing_sends (cancelled t f v) f ∷ slots_full t ∷ []) ≡ false
 unfolding no_room

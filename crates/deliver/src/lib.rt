@@ -1,83 +1,59 @@
-// The step deliver: what refuses it, and the message of its slot read, then discarded or let do what its tag says.
+// The step deliver: the message of its slot read, refused or taken: discarded, or let do what its tag says.
 #![tactic(auto)]
 
-ghost use Rattle.std.specs.Prelude.{◌≡◌, true, ◌<◌};
-ghost use Rattle.tables.specs.Layout.{Whole};
+ghost use Rattle.std.specs.Prelude.{◌≡◌, true, IfOk};
 ghost use Rattle.rules.specs.Action.{deliver};
 ghost use Rattle.rules.specs.Messages.{message_at};
 ghost use Rattle.rules.specs.Sound.{sound};
 ghost use Rattle.rules.specs.Refusals.{step_answer};
 ghost use Rattle.rules.specs.Step.{step, step_after};
 ghost use Rattle.rules.specs.Sent.{sent_by};
-ghost use Rattle.wanted.specs.Says.{deliver_says};
-ghost use Rattle.answers.specs.Answers.{answered};
+ghost use Rattle.answers.specs.Answers.{number_of, sent_number, Answered};
+ghost use Rattle.tags.specs.Said.{said};
 
-use answers::Answer;
-use tables::wide;
+use answers::{Answer, Refusal, Tag};
+use tables::{SessionTables, Slot};
+use tags::Message;
 
-// What refuses the deliver of the message of slot s: 5, 9, or 0 for nothing.
-pub fn says(t: &[u8], s: u8) -> u8
-    requires whole { Whole t.now }
-    requires ranges { (sound t.now ≡ true) × (s < 128) }
-    ensures { result ≡ deliver_says t.now (message_at t.now s) }
+// The slot of this number and its message, or why that is not delivered.
+#[tactic(auto, unfolding(rules::proofs::Checks::refusal_tests, wanted::specs::Says::deliver_says))]
+fn check_deliver(t: &SessionTables, s: u8) -> Result<(Slot, Message), Refusal>
+    requires { sound t.now ≡ true }
+    ensures answer { number_of result ≡ step_answer t.now (deliver s) }
+    ensures named { IfOk result (λ x. (x.0 ≡ s) × (said x.1 ≡ message_at t.now s)) }
 {
-    let i = wide(s);
-    let tag = messages::slot_byte(t, i, 0);
-    let f = messages::slot_byte(t, i, 1);
-    let k = messages::slot_byte(t, i, 2);
-    let v = messages::slot_byte(t, i, 3);
-    let j = messages::slot_byte(t, i, 4);
-    let n = messages::slot_byte(t, i, 5);
-    let cs = messages::counts_at(t, i);
-    tags::says_tag(t, i, tag, f, k, v, j, n, cs)
+    let Ok(slot) = Slot::try_from(s) else {
+        return Err(Refusal::NotThere);
+    };
+    let Some(m) = tags::read(t, slot) else {
+        return Err(Refusal::NotReady);
+    };
+    tags::says(t, &m)?;
+    Ok((slot, m))
 }
 
-// The number that refuses a deliver, or 0.
-fn deliver_refusal(t: &[u8], s: u8) -> u8
-    requires whole { Whole t.now }
-    requires ranges { sound t.now ≡ true }
-    ensures { result ≡ step_answer t.now (deliver s) }
-{
-    if 127 < s {
-        return 2;
-    }
-    if messages::slot_byte(t, wide(s), 0) == 0 {
-        return 4;
-    }
-    says(t, s)
-}
-
-fn deliver_apply(t: &mut [u8], s: u8) -> u8
-    requires whole { Whole t.old }
-    requires ranges { (sound t.old ≡ true) × (s < 128) }
+// A taken deliver of message m of slot s; the tag of what it sends.
+fn deliver(t: &mut SessionTables, s: Slot, m: Message) -> Option<Tag>
+    requires ranges { sound t.old ≡ true }
+    requires message { said m ≡ message_at t.old s }
     requires taken { step_answer t.old (deliver s) ≡ 0 }
-    ensures { (t.new ≡ step t.old (deliver s)) × (result ≡ sent_by t.old (deliver s)) }
+    ensures tables { t.new ≡ step t.old (deliver s) }
+    ensures sent { sent_number result ≡ sent_by t.old (deliver s) }
 {
-    let i = wide(s);
-    let tag = messages::slot_byte(t, i, 0);
-    let f = messages::slot_byte(t, i, 1);
-    let k = messages::slot_byte(t, i, 2);
-    let v = messages::slot_byte(t, i, 3);
-    let j = messages::slot_byte(t, i, 4);
-    let n = messages::slot_byte(t, i, 5);
-    let cs = messages::counts_at(t, i);
-    if tags::is_discarded(t, i, tag, f, k, v, j, n, cs) {
-        messages::empty_slot(t, i);
-        return 0;
+    if tags::is_discarded(t, &m) {
+        messages::empty_slot(t, s);
+        return None;
     }
-    tags::deliver_tag(t, i, tag, f, k, v, j, n, cs)
+    tags::deliver(t, s, m)
 }
 
 // Delivers the message of slot s, or is refused and nothing changes.
-pub fn deliver_message(t: &mut [u8], s: u8) -> Answer
-    requires whole { Whole t.old }
-    requires ranges { sound t.old ≡ true }
-    ensures { (result ≡ answered (step_answer t.old (deliver s)) (sent_by t.old (deliver s))) × (t.new ≡ step_after t.old (deliver s)) }
+#[tactic(auto, using(answers::proofs::Joins::refused_ne0, rules::proofs::Joins::unchanged, rules::proofs::Joins::changed))]
+pub fn deliver_message(t: &mut SessionTables, s: u8) -> Answer
+    requires { sound t.old ≡ true }
+    ensures answer { Answered result (step_answer t.old (deliver s)) (sent_by t.old (deliver s)) }
+    ensures tables { t.new ≡ step_after t.old (deliver s) }
 {
-    let no = deliver_refusal(t, s);
-    if no != 0 {
-        return Answer::Refused(no);
-    }
-    let sent = deliver_apply(t, s);
-    Answer::Done(sent)
+    let (slot, m) = check_deliver(t, s)?;
+    Ok(deliver(t, slot, m))
 }

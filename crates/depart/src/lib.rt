@@ -1,123 +1,130 @@
-// What a delivered message does, tags 1 to 5: a task asks the store, and is let go to its place or dropped. Each answers the tag of its reply, 0 for none.
-#![tactic(auto)]
+// What a delivered message does, tags 1 to 5: a task asks the store, and is let go to its place or dropped. Each answers the tag of its reply.
+#![tactic(auto, unfolding(rules::specs::Deliver::delivered, rules::specs::Deliver::deliver_publish, rules::specs::Deliver::deliver_published, rules::specs::Deliver::deliver_transit, rules::specs::Deliver::deliver_granted, rules::specs::Deliver::deliver_denied, rules::specs::Deliver::counted, rules::specs::Sent::reply_sent, rules::specs::Messages::send, rules::specs::Messages::bytes_of))]
 
 ghost use Rattle.std.specs.Prelude.{◌≡◌, false, cond, ◌≤◌, ◌<◌};
-ghost use Rattle.tables.specs.Layout.{Whole};
 ghost use Rattle.rules.specs.Fields.{dead, home, finishes_made, live, sent_count, active, with_finish_status, with_published};
 ghost use Rattle.rules.specs.Messages.{none, publish, published, transit, granted, denied, task, send};
 ghost use Rattle.rules.specs.Deliver.{counted, delivered};
 ghost use Rattle.rules.specs.Sent.{reply_sent};
+ghost use Rattle.answers.specs.Answers.{sent_number};
 ghost use Rattle.books.specs.Parents.{ParentsFall};
 
-use tables::wide;
+use answers::Tag;
+use fields::{FinishField, FinishStatus, TaskField, TaskStatus};
+use messages::{Fields, Route};
+use tables::{Finish, Place, SessionTables, Slot};
 
-// 1 publish: a new book; answers 2.
-pub fn publish(t: &mut [u8], s: usize, f: u8, k: u8) -> u8
-    requires whole { Whole t.old }
-    requires slot_there { s < 128 }
+// 1 publish: a new book, whose parent is the nearest ancestor with a book.
+pub fn publish(t: &mut SessionTables, s: Slot, f: Finish, k: u8) -> Option<Tag>
     requires parents_fall { ParentsFall t.old }
-    requires made { (1 ≤ f) × (f ≤ finishes_made t.old) }
+    requires made { f ≤ finishes_made t.old }
     requires home { home t.old f < 8 }
-    ensures { (t.new ≡ delivered t.old s (publish f k)) × (result ≡ reply_sent t.old s (publish f k)) }
+    ensures tables { t.new ≡ delivered t.old s (publish f k) }
+    ensures sent { sent_number result ≡ reply_sent t.old s (publish f k) }
 {
-    let h = fields::finish_byte(t, f, 0);
-    let q = books::nearest_book(t, fields::finish_byte(t, f, 2));
-    books::new_book(t, wide(f), wide(h), q);
-    messages::put_message(t, s, 2, f, k, 0, 0, 0);
-    2
+    let finish = f.number();
+    let home = Place::new(fields::finish_byte(t, finish, FinishField::Home));
+    let parent = books::nearest_book(t, fields::finish_byte(t, finish, FinishField::Parent));
+    books::new_book(t, f, home, parent);
+    messages::put(
+        t,
+        s,
+        Tag::Published,
+        Fields {
+            finish,
+            task: k,
+            ..Fields::default()
+        },
+    );
+    Some(Tag::Published)
 }
 
-// Finish f is active and published.
-fn finish_published(t: &mut [u8], f: u8)
-    requires { Whole t.old }
-    ensures { t.new ≡ with_published (with_finish_status t.old f active) f }
+// 2 published: the finish is active and published, its task asks for transit.
+pub fn published(t: &mut SessionTables, s: Slot, f: Finish, k: u8) -> Option<Tag>
+    ensures tables { t.new ≡ delivered t.old s (published f k) }
+    ensures sent { sent_number result ≡ reply_sent t.old s (published f k) }
 {
-    fields::put_finish_status(t, f, 1);
-    t[8 * (255 + wide(f)) + 4] = 1;
-}
-
-// 2 published: the finish is active, its task asks for transit; answers 3.
-pub fn published(t: &mut [u8], s: usize, f: u8, k: u8) -> u8
-    requires whole { Whole t.old }
-    requires slot_there { s < 128 }
-    ensures { (t.new ≡ delivered t.old s (published f k)) × (result ≡ reply_sent t.old s (published f k)) }
-{
-    let from = fields::task_byte(t, k, 0);
-    let to = fields::task_byte(t, k, 1);
-    finish_published(t, f);
-    fields::put_status(t, k, 2);
-    messages::put_message(t, s, 3, f, k, from, to, 0);
-    3
+    let finish = f.number();
+    let from = fields::task_byte(t, k, TaskField::From);
+    let to = fields::task_byte(t, k, TaskField::At);
+    fields::put_finish_status(t, finish, FinishStatus::Active);
+    fields::put_published(t, finish);
+    fields::put_status(t, k, TaskStatus::WaitsForTransit);
+    messages::put(
+        t,
+        s,
+        Tag::Transit,
+        Fields {
+            finish,
+            task: k,
+            from,
+            to,
+            number: 0,
+        },
+    );
+    Some(Tag::Transit)
 }
 
 // One more task of f from v at j, live and sent.
-fn count(t: &mut [u8], f: u8, v: u8, j: u8)
-    requires whole { Whole t.old }
-    requires in_range { ((1 ≤ f) × (f ≤ 32)) × ((v < 8) × (j < 8)) }
-    requires fits_byte { (live t.old f v j ≤ 254) × (sent_count t.old f v j ≤ 254) }
+fn count(t: &mut SessionTables, f: Finish, v: Place, j: Place)
+    requires { (live t.old f v j ≤ 254) × (sent_count t.old f v j ≤ 254) }
     ensures { t.new ≡ counted t.old f v j }
 {
     let lives = counts::live_at(t, f, v, j);
     let sent = counts::sent_at(t, f, v, j);
-    let i = wide(v);
-    let at = wide(j);
-    counts::put_book_byte(t, f, 8 + 8 * i + at, lives + 1);
-    counts::put_book_byte(t, f, 72 + 8 * i + at, sent + 1);
+    counts::put_live(t, f, v, j, lives + 1);
+    counts::put_sent(t, f, v, j, sent + 1);
 }
 
-// 3 transit: counted and granted (4), or denied where the receiver is dead (5).
-pub fn transit(t: &mut [u8], s: usize, f: u8, k: u8, v: u8, j: u8) -> u8
-    requires whole { Whole t.old }
-    requires slot_there { s < 128 }
-    requires in_range { ((1 ≤ f) × (f ≤ 32)) × ((v < 8) × (j < 8)) }
-    requires fits_byte { dead t.old j ≡ false → (live t.old f v j ≤ 254) × (sent_count t.old f v j ≤ 254) }
-    ensures { (t.new ≡ delivered t.old s (transit f k v j)) × (result ≡ reply_sent t.old s (transit f k v j)) }
+// 3 transit: counted and granted, or denied where the receiver is dead.
+pub fn transit(t: &mut SessionTables, s: Slot, m: Route) -> Option<Tag>
+    requires { dead t.old m.to ≡ false → (live t.old m.finish m.from m.to ≤ 254) × (sent_count t.old m.finish m.from m.to ≤ 254) }
+    ensures tables { t.new ≡ delivered t.old s (transit m.finish m.task m.from m.to) }
+    ensures sent { sent_number result ≡ reply_sent t.old s (transit m.finish m.task m.from m.to) }
 {
-    if fields::is_dead(t, j) {
-        messages::put_message(t, s, 5, f, k, v, j, 0);
-        return 5;
+    if fields::is_dead(t, m.to.number()) {
+        messages::put(t, s, Tag::Denied, m.fields(0));
+        return Some(Tag::Denied);
     }
-    count(t, f, v, j);
-    messages::put_message(t, s, 4, f, k, v, j, 0);
-    4
+    count(t, m.finish, m.from, m.to);
+    messages::put(t, s, Tag::Granted, m.fields(0));
+    Some(Tag::Granted)
 }
 
-// Task k goes to j, or nothing goes where j is dead.
-fn send_task(t: &mut [u8], s: usize, f: u8, k: u8, v: u8, j: u8) -> u8
-    requires whole { Whole t.old }
-    requires slot_there { s < 128 }
-    ensures { (t.new ≡ send t.old s (cond (dead t.old j) none (task f k v j))) × (result ≡ reply_sent t.old s (granted f k v j)) }
+// The task goes to its place, or nothing goes where that is dead.
+fn send_task(t: &mut SessionTables, s: Slot, m: Route) -> Option<Tag>
+    ensures tables { t.new ≡ send t.old s (cond (dead t.old m.to) none (task m.finish m.task m.from m.to)) }
+    ensures sent { sent_number result ≡ reply_sent t.old s (granted m.finish m.task m.from m.to) }
 {
-    if fields::is_dead(t, j) {
+    if fields::is_dead(t, m.to.number()) {
         messages::empty_slot(t, s);
-        return 0;
+        return None;
     }
-    messages::put_message(t, s, 6, f, k, v, j, 0);
-    6
+    messages::put(t, s, Tag::Task, m.fields(0));
+    Some(Tag::Task)
 }
 
-// 4 granted: the task goes on the wire (6), or nothing goes where the receiver is dead; its spawner runs.
-pub fn granted(t: &mut [u8], s: usize, f: u8, k: u8, v: u8, j: u8) -> u8
-    requires whole { Whole t.old }
-    requires slot_there { s < 128 }
-    ensures { (t.new ≡ delivered t.old s (granted f k v j)) × (result ≡ reply_sent t.old s (granted f k v j)) }
+// 4 granted: the task goes on the wire, or nothing goes where the receiver is dead; its spawner runs.
+pub fn granted(t: &mut SessionTables, s: Slot, m: Route) -> Option<Tag>
+    ensures tables { t.new ≡ delivered t.old s (granted m.finish m.task m.from m.to) }
+    ensures sent { sent_number result ≡ reply_sent t.old s (granted m.finish m.task m.from m.to) }
 {
-    let maker = fields::task_byte(t, k, 5);
-    let sent = send_task(t, s, f, k, v, j);
-    fields::put_status(t, k, 3);
+    let task = m.task;
+    let maker = fields::task_byte(t, task, TaskField::Maker);
+    let sent = send_task(t, s, m);
+    fields::put_status(t, task, TaskStatus::OnTheWire);
     fields::wake(t, maker);
     sent
 }
 
 // 5 denied: the task is dropped, its spawner runs.
-pub fn denied(t: &mut [u8], s: usize, f: u8, k: u8, v: u8, j: u8) -> u8
-    requires whole { Whole t.old }
-    requires slot_there { s < 128 }
-    ensures { (t.new ≡ delivered t.old s (denied f k v j)) × (result ≡ reply_sent t.old s (denied f k v j)) }
+pub fn denied(t: &mut SessionTables, s: Slot, m: Route) -> Option<Tag>
+    ensures tables { t.new ≡ delivered t.old s (denied m.finish m.task m.from m.to) }
+    ensures sent { sent_number result ≡ reply_sent t.old s (denied m.finish m.task m.from m.to) }
 {
-    let maker = fields::task_byte(t, k, 5);
+    let maker = fields::task_byte(t, m.task, TaskField::Maker);
     messages::empty_slot(t, s);
-    fields::put_status(t, k, 4);
+    fields::put_status(t, m.task, TaskStatus::Dropped);
     fields::wake(t, maker);
-    0
+    None
 }

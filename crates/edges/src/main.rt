@@ -5,39 +5,57 @@
 ghost use Rattle.std.specs.Prelude.{◌≤◌, ◌<◌};
 
 use std::io::{self, Write};
+use tables::{SessionTables, Tables};
+use told::Step;
 
-fn step<W: Write>(out: &mut W, t: &mut [u8; 15104], i: u32) -> io::Result<()>
-    requires { i < 1348 }
+fn step<W: Write>(out: &mut W, t: &mut SessionTables, number: u32) -> io::Result<()>
+    requires { number < 1348 }
 {
-    script::spoil(t, i);
+    script::spoil(t, number);
     let before = *t;
-    let answer = finish::finish_step(t, &script::record(i));
+    let record = script::record(number);
+    let answer = finish::finish_step(t, &record);
     let messages = finish::finish_messages_in_flight(t);
-    told::tell(out, i, answer, messages, &before, t)
+    told::tell(
+        out,
+        &Step {
+            number,
+            record,
+            answer,
+            messages,
+            before: &before,
+            after: t,
+        },
+    )
 }
 
-// Tables of another length.
-fn short_tables<W: Write>(out: &mut W) -> io::Result<()> {
-    let mut t = [1u8; 15103];
-    let before = t;
-    let answer = finish::finish_step(&mut t, &[9, 3, 0, 0]);
-    told::tell_lengths(out, 15103, 4, answer, check::same(&t, &before))
-}
-
-// A record of another length.
-fn short_record<W: Write>(out: &mut W) -> io::Result<()> {
-    let mut t = [1u8; 15104];
-    let before = t;
-    let answer = finish::finish_step(&mut t, &[9, 3, 0]);
-    told::tell_lengths(out, 15104, 3, answer, check::same(&t, &before))
+// A step on tables, or with a record, of another length.
+fn other_lengths<W: Write>(
+    out: &mut W,
+    t: &mut [u8],
+    before: &[u8],
+    record: &[u8],
+) -> io::Result<()> {
+    let answer = finish::finish_step(t, record);
+    told::tell_lengths(out, t.len(), record.len(), answer, &*t == before)
 }
 
 fn main(rt: HostRuntime) -> io::Result<()> {
     let mut out = rt.stdout();
-    let mut t = [0u8; 15104];
-    for i in 0..script::STEPS {
-        step(&mut out, &mut t, i)?;
+    let mut t = [0; Tables::BYTES];
+    for number in 0..script::STEPS {
+        step(&mut out, &mut t, number)?;
     }
-    short_tables(&mut out)?;
-    short_record(&mut out)
+    other_lengths(
+        &mut out,
+        &mut [1; Tables::BYTES - 1],
+        &[1; Tables::BYTES - 1],
+        &[9, 3, 0, 0],
+    )?;
+    other_lengths(
+        &mut out,
+        &mut [1; Tables::BYTES],
+        &[1; Tables::BYTES],
+        &[9, 3, 0],
+    )
 }

@@ -1,6 +1,7 @@
 -- What the lengths tell of an entry's answer: 7 comes first, the record's own answer after it, and readings are of whole tables.
 use mathlib.Core.Path.{◌≡◌, refl, sym, ap, ◌∙◌}
 use mathlib.Core.Bool.{Bool, true, false, cond, not}
+use mathlib.Core.Logic.{◌⊎◌, inl, inr}
 use mathlib.Core.List.{List}
 use Prim.Native.Nat.{ℕ, ◌+◌, ◌-◌, ◌<◌, ◌≤◌}
 use native.Mathlib.Nat.{min-le_right}
@@ -8,10 +9,12 @@ use native.Mathlib.Omega.{arith}
 use lib.Dec.{eqb}
 use lib.ListN.{length, take, drop, length-take, length-drop}
 use borrow.Author.Tests.{eq-eqb, ne_eqb}
+use Rattle.std.proofs.lemmas.Bool.{cases_eq}
 use Rattle.tables.specs.Bytes.{part}
 use Rattle.tables.specs.Layout.{Whole}
 use Rattle.tables.specs.Walks.{some_of}
-use Rattle.tables.proofs.Writes.{part_lent}
+use lib.Seq.{take_all}
+use Rattle.std.specs.List.{slice_range}
 use Rattle.rules.specs.Action.{action_of}
 use Rattle.rules.specs.Refusals.{wrong_length, refusals, first_of, answer}
 use Rattle.rules.specs.Step.{step, after}
@@ -51,10 +54,6 @@ module _ (t r : List ℕ) where
   unfolding after record_after
   right_takes u h e = e ∙ ap (λ (n : ℕ). cond (eqb n 0) (step t (action_of r)) t) (sym (passed h))
 
--- the record at a place of a schedule: four bytes, or the fewer that are left there
-pub record_lent : (s : List ℕ) (at : ℕ) → take (at + 4 - at) (drop at s) ≡ part s at 4
-record_lent s at = part_lent s at (at + 4) 4 (omega arith)
-
 module _ (t s : List ℕ) (at : ℕ) where
   part_short : length s < at + 4 → length (part s at 4) ≡ 4 → ⊥
   unfolding part
@@ -62,7 +61,7 @@ module _ (t s : List ℕ) (at : ℕ) where
       let most : length (take 4 (drop at s)) ≤ length (drop at s) = rw (length-take 4 (drop at s)) (min-le_right 4 (length (drop at s))) in
       omega (arith, most, length-drop at s)
 
-  short_wrong : length s < at + 4 → wrong_length t (part s at 4) ≡ true
+  pub short_wrong : length s < at + 4 → wrong_length t (part s at 4) ≡ true
   unfolding wrong_length some_of
   short_wrong h = rw (ne_eqb (length (part s at 4)) 4 (part_short h)) (either (not (eqb (length t) 15104)))
     where
@@ -70,18 +69,16 @@ module _ (t s : List ℕ) (at : ℕ) where
       either true = refl
       either false = refl
 
-  pub schedule_short : length s < 4 → wrong_length t (part s at 4) ≡ true
-  schedule_short h = short_wrong (omega arith)
+  -- what is left of a schedule from a place on begins with that record
+  pub record_front : (rest : List ℕ) → rest ≡ slice_range s at (length s) → take 4 rest ≡ part s at 4
+  unfolding part
+  record_front rest e = ap (take 4) (e ∙ take_all (length s - at) (drop at s) (rw (length-drop at s) (omega arith)))
 
-  pub schedule_over : length s - 4 < at → wrong_length t (part s at 4) ≡ true
-  schedule_over h = short_wrong (omega arith)
-
--- the reading entries
-module _ (t : List ℕ) (n : ℕ) where
-  pub no_reading_lem : (length t ≡ 15104 → ⊥) → 4294967295 ≡ reading t n
-  unfolding reading no_reading
-  no_reading_lem h = rw (ne_eqb (length t) 15104 h) refl
-
-  pub is_reading : (m : ℕ) → Whole t → m ≡ n → m ≡ reading t n
-  unfolding reading
-  is_reading m w e = rw (eq-eqb (length t) 15104 w) e
+-- a reading of tables of the right length, and of others
+pub read_says : (t : List ℕ) (r n : ℕ) → (length t ≡ 15104 → r ≡ n) → ((length t ≡ 15104 → ⊥) → r ≡ 4294967295) → r ≡ reading t n
+unfolding reading no_reading
+read_says t r n there none = go (cases_eq (length t) 15104)
+  where
+    go : (length t ≡ 15104) ⊎ (length t ≡ 15104 → ⊥) → r ≡ cond (eqb (length t) 15104) n 4294967295
+    go (inl h) = rw (eq-eqb (length t) 15104 h) (there h)
+    go (inr h) = rw (ne_eqb (length t) 15104 h) (none h)

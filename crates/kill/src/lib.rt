@@ -1,144 +1,106 @@
 // The step kill: all rows of each table walked over with what the loss of a place does to one, and when it is refused.
 #![tactic(auto)]
 
-ghost use Rattle.std.specs.Prelude.{◌≡◌, [], ◌∷◌, ◌≤◌, ◌<◌, eqb, set};
-ghost use Rattle.tables.specs.Bits.{marked, with_mark};
-ghost use Rattle.tables.specs.Walks.{some_of, change_parts};
-ghost use Rattle.tables.specs.Layout.{Whole};
-ghost use Rattle.rules.specs.Fields.{places, dead_mask};
+ghost use Rattle.std.specs.Prelude.{◌≡◌, ◌≤◌, IfOk};
+ghost use Rattle.tables.specs.Walks.{change_parts};
+ghost use Rattle.rules.specs.Fields.{places};
 ghost use Rattle.rules.specs.Action.{kill};
 ghost use Rattle.rules.specs.Kill.{kill_task, kill_finish, kill_book, kill_local, kill_slot, kill_step};
 ghost use Rattle.rules.specs.Refusals.{step_answer};
 ghost use Rattle.rules.specs.Step.{step_after};
 ghost use Rattle.rules.specs.Sent.{sent_by};
-ghost use Rattle.answers.specs.Answers.{answered};
+ghost use Rattle.answers.specs.Answers.{number_of, Answered};
 
-use answers::Answer;
-use tables::{Tables, wide};
+use answers::{Answer, Refusal};
+use tables::{Place, SessionTables, Tables};
 
 // The rows of n tasks.
-fn kill_tasks(t: &mut [u8], p: u8, n: usize)
-    requires whole { Whole t.old }
-    requires in_range { n < 256 }
+fn kill_tasks(t: &mut SessionTables, p: u8, n: u8)
     ensures { t.new ≡ change_parts (kill_task p) 8 1 n 8 t.old }
 {
-    let mut j: usize = 0;
-    while j < n {
-        loss::kill_task(t, Tables::task(1 + j), p);
-        j += 1;
-    }
+    let at = Tables::ROW * Tables::FIRST_TASK;
+    walk::change_parts(t, at, usize::from(n), |_, row, _| loss::kill_task(row, p));
 }
 
 // The rows of n finishes.
-fn kill_finishes(t: &mut [u8], p: u8, n: usize)
-    requires whole { Whole t.old }
-    requires in_range { n < 256 }
+fn kill_finishes(t: &mut SessionTables, p: u8, n: u8)
     ensures { t.new ≡ change_parts (kill_finish p) 8 1 n 2048 t.old }
 {
-    let mut j: usize = 0;
-    while j < n {
-        loss::kill_finish(t, Tables::ROW * (Tables::FIRST_FINISH + j), p);
-        j += 1;
-    }
+    let at = Tables::ROW * Tables::FIRST_FINISH;
+    walk::change_parts(t, at, usize::from(n), |_, row, _| loss::kill_finish(row, p));
 }
 
 // The store books.
-fn kill_books(t: &mut [u8], p: usize)
-    requires whole { Whole t.old }
-    requires in_range { p < 8 }
+fn kill_books(t: &mut SessionTables, p: Place)
     ensures { t.new ≡ change_parts (kill_book p) 144 1 32 2304 t.old }
 {
-    let mut j: usize = 0;
-    while j < 32 {
-        loss::kill_book(t, Tables::book(1 + j), p);
-        j += 1;
-    }
+    let at = Tables::ROW * Tables::FIRST_BOOK;
+    walk::change_parts(t, at, Tables::FINISHES, |_, b, _| loss::kill_book(b, p));
 }
 
 // The local books of all finishes at all places.
-fn kill_locals(t: &mut [u8], p: usize)
-    requires { Whole t.old }
+fn kill_locals(t: &mut SessionTables, p: usize)
     ensures { t.new ≡ change_parts (kill_local p) 24 0 256 6912 t.old }
 {
-    let mut j: usize = 0;
-    while j < 256 {
-        loss::kill_local(t, Tables::local(1 + j / 8, j % 8), j, p);
-        j += 1;
-    }
+    let at = Tables::ROW * Tables::FIRST_LOCAL;
+    walk::change_parts(
+        t,
+        at,
+        Tables::FINISHES * Tables::PLACES,
+        |_, b, y| loss::kill_local(b, y, p),
+    );
 }
 
 // The slots.
-fn kill_slots(t: &mut [u8], p: u8)
-    requires { Whole t.old }
+fn kill_slots(t: &mut SessionTables, p: Place)
     ensures { t.new ≡ change_parts (kill_slot t.old p) 16 0 128 13056 t.old }
 {
-    let mut j: usize = 0;
-    while j < 128 {
-        loss::kill_slot(t, Tables::slot(j), p);
-        j += 1;
-    }
-}
-
-// The place is in the dead mask.
-fn mark_dead(t: &mut [u8], p: u8)
-    requires whole { Whole t.old }
-    requires in_range { p < 8 }
-    ensures { t.new ≡ set t.old 1 (with_mark (dead_mask t.old) p) }
-{
-    t[1] = tables::with_mark(t[1], p);
+    let at = Tables::ROW * Tables::FIRST_SLOT;
+    walk::change_parts(
+        t,
+        at,
+        Tables::SLOTS,
+        |t, slot, _| loss::kill_slot(t, slot, p),
+    );
 }
 
 // The place is lost.
-fn kill(t: &mut [u8], p: u8)
-    requires whole { Whole t.old }
-    requires in_range { p < 8 }
+#[tactic(auto, using(loss::proofs::Goes::mark_aside), unfolding(rules::specs::Kill::kill_step))]
+fn kill(t: &mut SessionTables, p: Place)
     ensures { t.new ≡ kill_step t.old p }
 {
-    let tasks = wide(t[2]);
-    let finishes = wide(t[3]);
-    let q = wide(p);
-    mark_dead(t, p);
+    let tasks = t[Tables::TASKS_MADE];
+    let finishes = t[Tables::FINISHES_MADE];
+    t[Tables::DEAD_MASK] = tables::with_mark(t[Tables::DEAD_MASK], p.number());
     kill_slots(t, p);
-    kill_locals(t, q);
-    kill_books(t, q);
-    kill_finishes(t, p, finishes);
-    kill_tasks(t, p, tasks);
+    kill_locals(t, p.index());
+    kill_books(t, p);
+    kill_finishes(t, p.number(), finishes);
+    kill_tasks(t, p.number(), tasks);
 }
 
-// Place 0 and a dead place are not killed.
-fn is_spared(dead: u8, p: u8) -> bool
-    ensures { result ≡ some_of (eqb p 0 ∷ marked dead p ∷ []) }
+// The place of this number, or why it may not be killed: place 0 and a dead place are not.
+#[tactic(auto, unfolding(rules::proofs::Checks::refusal_tests))]
+fn check_kill(t: &SessionTables, p: u8) -> Result<Place, Refusal>
+    requires { places t.now ≤ 8 }
+    ensures answer { number_of result ≡ step_answer t.now (kill p) }
+    ensures named { IfOk result (λ q. q ≡ p) }
 {
-    if p == 0 {
-        return true;
+    let q = fields::session_place(t, p).ok_or(Refusal::NotThere)?;
+    if p == 0 || fields::is_dead(t, p) {
+        return Err(Refusal::WrongPlace);
     }
-    tables::is_marked(dead, p)
-}
-
-// Why the place may not be killed; 0: it may.
-fn kill_refusal(t: &[u8], p: u8) -> u8
-    requires { Whole t.now }
-    ensures { result ≡ step_answer t.now (kill p) }
-{
-    if t[0] <= p {
-        return 2;
-    }
-    if is_spared(t[1], p) {
-        return 3;
-    }
-    0
+    Ok(q)
 }
 
 // Place p is lost, or the kill is refused and nothing changes.
-pub fn kill_place(t: &mut [u8], p: u8) -> Answer
-    requires whole { Whole t.old }
-    requires counts { places t.old ≤ 8 }
-    ensures { (result ≡ answered (step_answer t.old (kill p)) (sent_by t.old (kill p))) × (t.new ≡ step_after t.old (kill p)) }
+#[tactic(auto, unfolding(rules::specs::Step::step, rules::specs::Sent::sent_by))]
+pub fn kill_place(t: &mut SessionTables, p: u8) -> Answer
+    requires { places t.old ≤ 8 }
+    ensures answer { Answered result (step_answer t.old (kill p)) (sent_by t.old (kill p)) }
+    ensures tables { t.new ≡ step_after t.old (kill p) }
 {
-    let no = kill_refusal(t, p);
-    if no != 0 {
-        return Answer::Refused(no);
-    }
-    kill(t, p);
-    Answer::Done(0)
+    let q = check_kill(t, p)?;
+    kill(t, q);
+    Ok(None)
 }

@@ -1,41 +1,31 @@
 -- Where a message goes is told by its tag; nothing of the tables but the home of its finish matters.
 use mathlib.Core.Path.{◌≡◌, refl, fun_ext}
-use mathlib.Core.Bool.{Bool, true, false}
+use mathlib.Core.Bool.{cond}
 use mathlib.Core.List.{List}
 use Prim.Native.Nat.{ℕ, ◌+◌, ◌*◌}
 use native.Mathlib.Omega.{arith}
-use borrow.Author.Tests.{eqb-true, eqb-false, ne_eqb}
 use lib.Dec.{eqb}
 use lib.ListN.{set}
 use lib.Seq.{get_or-set_other}
+use Rattle.std.proofs.lemmas.Bool.Decides.{nat_tests}
 use Rattle.tables.specs.Bytes.{byte}
 use Rattle.rules.specs.Fields.{home}
-use Rattle.rules.specs.Messages.{tagged, message_in, goes_to}
+use Rattle.rules.specs.Messages.{tagged, message_in, goes_to, store}
 use Rattle.rules.specs.Kill.{kill_slot}
-use Rattle.loss.specs.Tags.{goes_by_tag}
 
-is_or_not : {P : Type 0} (a b : ℕ) → (a ≡ b → P) → ((a ≡ b → ⊥) → P) → P
-is_or_not {P} a b same other = go (eqb a b) refl
-  where
-    go : (c : Bool) → eqb a b ≡ c → P
-    go true e = same (eqb-true a b e)
-    go false e = other (eqb-false a b e)
+-- where a message goes, told by its tag; h is the home of its finish, v its from, j its to
+unfoldable pub goes_by_tag : ℕ → ℕ → ℕ → ℕ → ℕ
+goes_by_tag tag h v j =
+    cond (eqb tag 2) h
+    (cond (eqb tag 4) v
+    (cond (eqb tag 5) v
+    (cond (eqb tag 6) j
+    (cond (eqb tag 8) h
+    (cond (eqb tag 10) j store)))))
 
 goes-tagged : (t : List ℕ) (tag f k v j n : ℕ) (counts : List ℕ) → goes_to t (tagged tag f k v j n counts) ≡ goes_by_tag tag (home t f) v j
 unfolding tagged goes_to goes_by_tag
-goes-tagged t tag f k v j n counts =
-    is_or_not tag 1 (λ e. rw e refl)
-    (λ n1. is_or_not tag 2 (λ e. rw e refl)
-    (λ n2. is_or_not tag 3 (λ e. rw e refl)
-    (λ n3. is_or_not tag 4 (λ e. rw e refl)
-    (λ n4. is_or_not tag 5 (λ e. rw e refl)
-    (λ n5. is_or_not tag 6 (λ e. rw e refl)
-    (λ n6. is_or_not tag 7 (λ e. rw e refl)
-    (λ n7. is_or_not tag 8 (λ e. rw e refl)
-    (λ n8. is_or_not tag 9 (λ e. rw e refl)
-    (λ n9. is_or_not tag 10 (λ e. rw e refl)
-    (λ n10. is_or_not tag 11 (λ e. rw e refl)
-    (λ n11. rw (ne_eqb tag 1 n1, ne_eqb tag 2 n2, ne_eqb tag 3 n3, ne_eqb tag 4 n4, ne_eqb tag 5 n5, ne_eqb tag 6 n6, ne_eqb tag 7 n7, ne_eqb tag 8 n8, ne_eqb tag 9 n9, ne_eqb tag 10 n10, ne_eqb tag 11 n11) refl)))))))))))
+goes-tagged t tag f k v j n counts = grind (arith, nat_tests)
 
 pub goes_in : (t m : List ℕ) → goes_to t (message_in m) ≡ goes_by_tag (byte m 0) (home t (byte m 1)) (byte m 3) (byte m 4)
 unfolding message_in

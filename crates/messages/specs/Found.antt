@@ -1,7 +1,6 @@
 -- A slot found or none, as the number that the rules give.
-use Rattle.std.specs.Prelude.{cond, ℕ, eqb}
-use Rattle.messages.specs.declared.Found.{Found}
+use Rattle.std.specs.Prelude.{cond, ℕ, eqb, Option, None, Some}
 
 -- 128 is no slot.
-unfoldable pub found_at : ℕ → Found
-found_at s = cond (eqb s 128) Found.Nothing (Found.At s)
+unfoldable pub found_at : ℕ → Option ℕ
+found_at s = cond (eqb s 128) None (Some s)

@@ -1,118 +1,103 @@
 // The two steps that send nothing and make new rows: begin, and a task that opens a finish.
 #![tactic(auto)]
 
-ghost use Rattle.std.specs.Prelude.{◌≡◌};
-ghost use Rattle.tables.specs.Layout.{Whole};
+ghost use Rattle.std.specs.Prelude.{◌≡◌, ◌<◌};
 ghost use Rattle.rules.specs.Action.{open_finish, begin};
+ghost use Rattle.rules.specs.Fields.{tasks_made, finishes_made};
 ghost use Rattle.rules.specs.Begin.{begin_step};
-ghost use Rattle.rules.specs.Open.{opened};
-ghost use Rattle.rules.specs.Refusals.{no_room, step_answer};
+ghost use Rattle.rules.specs.Refusals.{step_answer};
 ghost use Rattle.rules.specs.Step.{step, step_after};
 ghost use Rattle.rules.specs.Sent.{sent_by};
-ghost use Rattle.answers.specs.Answers.{answered};
+ghost use Rattle.answers.specs.Answers.{number_of, Answered};
 
-use answers::Answer;
+use answers::{Answer, Refusal};
+use fields::{FinishStatus, TaskField, TaskStatus};
+use tables::{Finish, SessionTables, Tables};
 
-// The number that refuses a begin with n places, or 0.
-fn begin_refusal(t: &[u8], n: u32) -> u8
-    ensures { result ≡ step_answer t.now (begin n) }
-{
-    if n < 2 {
-        return 2;
-    }
-    if 8 < n {
-        return 2;
-    }
-    0
-}
-
-fn begin_apply(t: &mut [u8], n: u8)
-    requires { Whole t.old }
+// Clears all; task 1 runs at place 0, the main task of finish 1, in a session of n places.
+#[tactic(auto, unfolding(rules::specs::Begin::zero_tables, rules::specs::Begin::begin_step))]
+fn begin_rows(t: &mut SessionTables, n: u8)
     ensures { t.new ≡ begin_step n }
 {
-    tables::clear(t);
-    tables::put_row(t, 0, [n, 0, 1, 1, 0, 0, 0, 0]);
-    tables::put_row(t, 8, [0, 0, 1, 5, 0, 0, 0, 0]);
-    tables::put_row(t, 2048, [0, 0, 0, 1, 0, 1, 0, 0]);
+    *t = [0; Tables::BYTES];
+    tables::put_part(t, 0, &[n, 0, 1, 1, 0, 0, 0, 0]);
+    tables::put_part(
+        t,
+        Tables::ROW * Tables::FIRST_TASK,
+        &[0, 0, 1, TaskStatus::Running.into(), 0, 0, 0, 0],
+    );
+    tables::put_part(
+        t,
+        Tables::ROW * Tables::FIRST_FINISH,
+        &[0, 0, 0, FinishStatus::Active.into(), 0, 1, 0, 0],
+    );
 }
 
 // Begins a session of n places, or refuses and changes nothing.
-pub fn begin_session(t: &mut [u8], n: u32) -> Answer
-    requires { Whole t.old }
-    ensures { (result ≡ answered (step_answer t.old (begin n)) (sent_by t.old (begin n))) × (t.new ≡ step_after t.old (begin n)) }
+#[tactic(auto, unfolding(rules::specs::Sent::sent_by, rules::specs::Step::step, rules::specs::Step::step_after, rules::proofs::Checks::refusal_tests))]
+pub fn begin_session(t: &mut SessionTables, n: u32) -> Answer
+    ensures answer { Answered result (step_answer t.old (begin n)) (sent_by t.old (begin n)) }
+    ensures tables { t.new ≡ step_after t.old (begin n) }
 {
-    let no = begin_refusal(t, n);
-    if no != 0 {
-        return Answer::Refused(no);
+    if n < 2 || 8 < n {
+        return Err(Refusal::NotThere);
     }
-    begin_apply(t, n as u8);
-    Answer::Done(0)
+    begin_rows(t, n as u8);
+    Ok(None)
 }
 
-// No room for one more task and one more finish.
-fn is_full(t: &[u8], k: u8) -> bool
-    requires { Whole t.now }
-    ensures { result ≡ no_room t.now (open_finish k) }
+// Why task k may not open a finish.
+#[tactic(auto, unfolding(rules::proofs::Checks::refusal_tests))]
+fn check_open(t: &SessionTables, k: u8) -> Result<(), Refusal>
+    ensures { number_of result ≡ step_answer t.now (open_finish k) }
 {
-    if 255 <= t[2] {
-        return true;
+    if !fields::task_made(t, k) {
+        return Err(Refusal::NotThere);
     }
-    if 32 <= t[3] {
-        return true;
+    if !fields::has_status(t, k, TaskStatus::Running) {
+        return Err(Refusal::NotReady);
     }
-    false
+    if usize::from(t[Tables::TASKS_MADE]) >= Tables::TASKS
+        || t[Tables::FINISHES_MADE] >= Finish::COUNT
+    {
+        return Err(Refusal::NoRoom);
+    }
+    Ok(())
 }
 
-// The number that refuses task k to open a finish, or 0.
-fn open_refusal(t: &[u8], k: u8) -> u8
-    requires { Whole t.now }
-    ensures { result ≡ step_answer t.now (open_finish k) }
-{
-    if fields::task_made(t, k) {} else {
-        return 2;
-    }
-    if fields::has_status(t, k, 5) {} else {
-        return 4;
-    }
-    if is_full(t, k) {
-        return 6;
-    }
-    0
-}
-
-// Task k at p, of finish q, opens finish g with main task n.
-fn open_rows(t: &mut [u8], k: u8, p: u8, q: u8, n: u8, g: u8)
-    requires { Whole t.old }
-    ensures { t.new ≡ opened t.old k p q n g }
-{
-    fields::put_status(t, k, 6);
-    fields::put_tasks_made(t, n);
-    fields::put_finishes_made(t, g);
-    tables::put_row(t, 8 * tables::wide(n), [p, p, g, 5, 0, k, 0, 0]);
-    tables::put_row(t, 8 * (255 + tables::wide(g)), [p, k, q, 1, 0, n, 0, 0]);
-}
-
-fn open_apply(t: &mut [u8], k: u8)
-    requires whole { Whole t.old }
-    requires taken { step_answer t.old (open_finish k) ≡ 0 }
+// Task k blocks; the next finish is active and homed at its place, and the next task runs as its main task.
+#[tactic(auto, unfolding(rules::specs::Step::step, rules::specs::Open::open_step, rules::specs::Open::opened))]
+fn open_rows(t: &mut SessionTables, k: u8)
+    requires tasks { tasks_made t.old < 255 }
+    requires finishes { finishes_made t.old < 32 }
     ensures { t.new ≡ step t.old (open_finish k) }
 {
-    let p = fields::task_byte(t, k, 1);
-    let q = fields::task_byte(t, k, 2);
-    let n = t[2] + 1;
-    let g = t[3] + 1;
-    open_rows(t, k, p, q, n, g);
+    let p = fields::task_byte(t, k, TaskField::At);
+    let q = fields::task_byte(t, k, TaskField::Finish);
+    let n = t[Tables::TASKS_MADE] + 1;
+    let g = Finish::new(t[Tables::FINISHES_MADE] + 1);
+    fields::put_status(t, k, TaskStatus::Blocked);
+    fields::put_tasks_made(t, n);
+    fields::put_finishes_made(t, g.number());
+    tables::put_part(
+        t,
+        Tables::task(n),
+        &[p, p, g.number(), TaskStatus::Running.into(), 0, k, 0, 0],
+    );
+    tables::put_part(
+        t,
+        Tables::finish(g.number()),
+        &[p, k, q, FinishStatus::Active.into(), 0, n, 0, 0],
+    );
 }
 
 // Task k opens a finish, or is refused and nothing changes.
-pub fn open_finish(t: &mut [u8], k: u8) -> Answer
-    requires { Whole t.old }
-    ensures { (result ≡ answered (step_answer t.old (open_finish k)) (sent_by t.old (open_finish k))) × (t.new ≡ step_after t.old (open_finish k)) }
+#[tactic(auto, using(answers::proofs::Joins::refused_ne0, rules::proofs::Joins::unchanged, rules::proofs::Joins::changed, crate::proofs::Laws::open_room), unfolding(rules::specs::Sent::sent_by))]
+pub fn open_finish(t: &mut SessionTables, k: u8) -> Answer
+    ensures answer { Answered result (step_answer t.old (open_finish k)) (sent_by t.old (open_finish k)) }
+    ensures tables { t.new ≡ step_after t.old (open_finish k) }
 {
-    let no = open_refusal(t, k);
-    if no != 0 {
-        return Answer::Refused(no);
-    }
-    open_apply(t, k);
-    Answer::Done(0)
+    check_open(t, k)?;
+    open_rows(t, k);
+    Ok(None)
 }

@@ -2,33 +2,22 @@
 use mathlib.Core.Path.{◌≡◌, refl, sym, ap, ◌∙◌}
 use mathlib.Core.Bool.{true}
 use mathlib.Core.List.{List, [], ◌∷◌, ◌++◌}
-use Prim.Native.Nat.{ℕ, zero, suc, ◌-◌, ◌/◌, ◌%◌, ◌+◌, ◌^◌, ◌≤◌, ◌<◌}
+use Prim.Native.Nat.{ℕ, zero, suc, ◌+◌, ◌^◌, ◌≤◌, ◌<◌}
 use native.Mathlib.Omega.{arith}
-use lib.Dec.{eqb, ltb}
+use lib.Dec.{eqb}
 use lib.ListN.{length, take, length-append}
-use borrow.Author.Tests.{ltb-false}
-use Rattle.text.specs.Decimal.{decimal}
-use Rattle.text.proofs.Digits.{room_falls}
+use Rattle.std.specs.Fmt.{decimal}
+use Rattle.std.proofs.lemmas.Fmt.{length-decimal-le}
 use Rattle.plan.specs.declared.Plan.{Plan}
 use Rattle.plan.specs.Plan.{fits, first_line, spelled, ReadsAs}
 use Rattle.plan.proofs.Ranges.{ranges}
 use Rattle.plan.proofs.Spelling.{by_test}
 
--- a number below 10 ^ k has at most k digits
-digits_most : (room n k : ℕ) → 1 ≤ k → n < 10 ^ k → length (decimal room n) ≤ k
-unfolding decimal
-digits_most zero n k one low = omega arith
-digits_most (suc room) n k one low = by_test (ltb n 10)
-    (λ e. rw e one)
-    (λ e.
-    let fewer = room_falls k n low (ltb-false n 10 e) in
-    rw e (omega (arith, length-append (decimal room (n / 10)) ((48 + n % 10) ∷ []), digits_most room (n / 10) (k - 1) fewer.0 fewer.1)))
-
 -- a digit, a space, and what follows
-word_most : (n : ℕ) (m : List ℕ) (k : ℕ) → n < 10 → length m ≤ k → length (decimal 20 n ++ (32 ∷ m)) ≤ 2 + k
+word_most : (n : ℕ) (m : List ℕ) (k : ℕ) → n < 10 → length m ≤ k → length (decimal n ++ (32 ∷ m)) ≤ 2 + k
 word_most n m k low rest =
     let e : 10 ^ 1 ≡ 10 = refl in
-    omega (arith, length-append (decimal 20 n) (32 ∷ m), digits_most 20 n 1 (omega arith) (omega arith))
+    omega (arith, length-append (decimal n) (32 ∷ m), length-decimal-le 1 n (omega arith) (omega arith) (omega arith))
 
 spelled_most : (p : Plan) → fits p ≡ true → length (spelled p) ≤ 13
 unfolding spelled
@@ -38,7 +27,7 @@ spelled_most p fit =
     word_most p.levels _ 11 (omega (arith, r.levels.1))
     (word_most p.width _ 9 (omega (arith, r.width.1))
     (word_most p.places _ 7 (omega (arith, r.places.1))
-    (word_most p.victim _ 5 (omega (arith, r.victim, r.places.1)) (digits_most 20 p.killstep 5 (omega arith) (omega (arith, r.killstep))))))
+    (word_most p.victim _ 5 (omega (arith, r.victim, r.places.1)) (length-decimal-le 5 p.killstep (omega arith) (omega (arith, r.killstep)) (omega (arith, r.killstep))))))
 
 -- the first line of the first n bytes is no longer than that of all, and the same if it ends in them
 line_short : (n : ℕ) (l : List ℕ) → length (first_line (take n l)) ≤ length (first_line l)

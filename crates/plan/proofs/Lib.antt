@@ -1,6 +1,6 @@
 pub mod Ranges
 pub mod Spelling
+pub mod Fronts
 pub mod Lines
-pub mod Places
 pub mod Trees
 pub mod Cut

@@ -1,20 +1,14 @@
 -- What is read of the first line is what reading means, both ways: a plan that fits is what the line spells, and no other plan is.
-use mathlib.Core.Path.{◌≡◌, refl, sym, ap, ◌∙◌}
-use mathlib.Core.Bool.{Bool, true, false, false≢true}
-use mathlib.Core.List.{List, ◌∷◌, ◌++◌}
-use Prim.Native.Nat.{ℕ, ◌-◌}
-use native.Mathlib.Nat.{sub-zero}
-use native.Mathlib.Omega.{arith}
-use lib.ListN.{take, drop}
-use Rattle.text.specs.Decimal.{decimal}
+use Rattle.std.proofs.Common.{◌≡◌, refl, sym, ap, ◌∙◌, true, List, ◌∷◌, ◌++◌, ℕ, Option, None, Some, option_map, arith}
+use Rattle.std.specs.Fmt.{decimal}
 use Rattle.plan.specs.declared.Plan.{Plan}
-use Rattle.plan.specs.Plan.{fits, first_line, spelled, no_plan, ReadsAs}
-use Rattle.plan.specs.Reading.{word_of, numbers_of, plan_of}
+use Rattle.plan.specs.Plan.{fits, first_line, spelled, no_plan, named, ReadsAs}
+use Rattle.plan.specs.Reading.{word_of, last_of, numbers_of, plan_of}
 use Rattle.plan.proofs.Ranges.{Ranges, ranges}
-use Rattle.plan.proofs.Spelling.{by_test, word_reads, last_reads, word-spelled, last_spelled}
+use Rattle.plan.proofs.Spelling.{by_test, made_of, word_reads, last_reads, word-spelled, last_spelled}
 
 -- ---- a line that is spelled, and one that is read
-numbers_read : (p : Plan) → Ranges p → numbers_of (spelled p) ≡ p
+numbers_read : (p : Plan) → Ranges p → numbers_of (spelled p) ≡ Some p
 unfolding numbers_of spelled
 numbers_read p r = rw (
   word_reads p.levels _ (omega (arith, r.levels.1)),
@@ -24,56 +18,62 @@ numbers_read p r = rw (
   last_reads p.killstep r.killstep,
 ) refl
 
-numbers_spelled : (m : List ℕ) → Ranges (numbers_of m) → m ≡ spelled (numbers_of m)
+numbers_spelled : (m : List ℕ) (p : Plan) → numbers_of m ≡ Some p → m ≡ spelled p
 unfolding numbers_of spelled
-numbers_spelled m r =
-    let a = word_of m in
-    let b = word_of a.1 in
-    let c = word_of b.1 in
-    let d = word_of c.1 in
-    word-spelled m (omega (arith, r.levels.1))
-    ∙ ap (after a.0) (word-spelled a.1 (omega (arith, r.width.1))
-    ∙ ap (after b.0) (word-spelled b.1 (omega (arith, r.places.1))
-    ∙ ap (after c.0) (word-spelled c.1 (omega (arith, r.victim, r.places.1))
-    ∙ ap (after d.0) (last_spelled d.1 r.killstep))))
+numbers_spelled m p h =
+    let a = made_of (word_of m) _ p h in
+    let b = made_of (word_of a.0.1) _ p a.1.1 in
+    let c = made_of (word_of b.0.1) _ p b.1.1 in
+    let d = made_of (word_of c.0.1) _ p c.1.1 in
+    let k = mapped (last_of d.0.1) _ p d.1.1 in
+    rw (← k.1.1)
+    (word-spelled m a.0 a.1.0
+    ∙ ap (after a.0.0) (word-spelled a.0.1 b.0 b.1.0
+    ∙ ap (after b.0.0) (word-spelled b.0.1 c.0 c.1.0
+    ∙ ap (after c.0.0) (word-spelled c.0.1 d.0 d.1.0
+    ∙ ap (after d.0.0) (last_spelled d.0.1 k.0 k.1.0)))))
   where
     after : ℕ → List ℕ → List ℕ
-    after n l = decimal 20 n ++ (32 ∷ l)
+    after n l = decimal n ++ (32 ∷ l)
+
+    mapped : {A B : Type 0} (o : Option A) (f : A → B) (y : B) → option_map f o ≡ Some y → (x : A) × ((o ≡ Some x) × (f x ≡ y))
+    mapped None f y e = absurd (cc)
+    mapped (Some x) f y e = (x, (refl, cc))
 
 -- ---- the plan of the line
 none-fits : fits no_plan ≡ true → ⊥
 none-fits e = let r = ranges no_plan e in omega (arith, r.levels.0)
 
-reads_as : (input : List ℕ) → ReadsAs input (plan_of (first_line input))
+pub reads_as : (input : List ℕ) (o : Option Plan) → o ≡ plan_of (first_line input) → ReadsAs input (named o)
 unfolding plan_of
-reads_as input = by_test (fits q)
-    (λ e. rw e (record {
-      accepted = λ f. numbers_spelled m (ranges q e);
-      complete = λ p f s. rw s (numbers_read p (ranges p f));
-      refused = λ f. absurd (false≢true (sym f ∙ e));
-    }))
-    (λ e. rw e (record {
-      accepted = λ f. absurd (none-fits f);
-      complete = λ p f s. absurd (false≢true (sym e ∙ ap (λ l. fits (numbers_of l)) s ∙ ap fits (numbers_read p (ranges p f)) ∙ f));
-      refused = λ f. refl;
-    }))
+reads_as input o e = go (numbers_of m) refl
   where
     m : List ℕ
     m = first_line input
 
-    q : Plan
-    q = numbers_of m
-
--- the line lent to the reader
-pub first_read : (t : List ℕ) (e : ℕ) (r : Plan) → first_line t ≡ take e t → r ≡ plan_of (take (e - 0) (drop 0 t)) → ReadsAs t r
-first_read t e r f q =
-    let z : r ≡ plan_of (first_line t) = q ∙ ap plan_of (rw (sub-zero e) (sym f)) in
-    rw z (reads_as t)
-
--- a plan with levels is one that fits
-pub named_fits : {input : List ℕ} {r : Plan} → ReadsAs input r → (r.levels ≡ 0 → ⊥) → fits r ≡ true
-named_fits {r = r} reads some = go (fits r) refl
-  where
-    go : (b : Bool) → fits r ≡ b → fits r ≡ true
-    go true e = e
-    go false e = absurd (some (ap (λ (p : Plan). p.levels) (reads.refused e)))
+    go : (q : Option Plan) → numbers_of m ≡ q → ReadsAs input (named o)
+    go None h =
+        let z : o ≡ None = e ∙ rw h refl in
+        rw z (record {
+          accepted = λ f. absurd (none-fits f);
+          complete = λ p f s. let w : None ≡ Some p = sym h ∙ ap numbers_of s ∙ numbers_read p (ranges p f) in absurd (cc);
+          refused = λ f. refl;
+        })
+    go (Some q) h = by_test (fits q)
+        (λ y.
+        let z : o ≡ Some q = e ∙ rw (h, y) refl in
+        rw z (record {
+          accepted = λ f. numbers_spelled m q h;
+          complete = λ p f s. let w : Some q ≡ Some p = sym h ∙ ap numbers_of s ∙ numbers_read p (ranges p f) in cc;
+          refused = λ f. absurd (cc);
+        }))
+        (λ y.
+        let z : o ≡ None = e ∙ rw (h, y) refl in
+        rw z (record {
+          accepted = λ f. absurd (none-fits f);
+          complete = λ p f s.
+              let w : Some q ≡ Some p = sym h ∙ ap numbers_of s ∙ numbers_read p (ranges p f) in
+              let v : fits q ≡ fits p = cc in
+              absurd (cc);
+          refused = λ f. refl;
+        }))

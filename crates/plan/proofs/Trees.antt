@@ -6,17 +6,6 @@ use native.Mathlib.Numerals.{add-one}
 use native.Mathlib.Omega.{arith}
 use Rattle.plan.specs.Tree.{tree_size}
 
-pub tree_none : (w : ℕ) → 0 ≡ tree_size w 0
-unfolding tree_size
-tree_none w = refl
-
-pub tree_more : (w h s : ℕ) → s ≡ tree_size w h → 1 + w * s ≡ tree_size w (h + 1)
-unfolding tree_size
-tree_more w h s e = rw (add-one h, e) refl
-
-pub tree_done : (w h n s : ℕ) → n ≤ h → h ≤ n → s ≡ tree_size w h → s ≡ tree_size w n
-tree_done w h n s g l e = let z : h ≡ n = omega arith in e ∙ ap (tree_size w) z
-
 tree_below : (w h : ℕ) → w ≤ 4 → 3 * tree_size w h < 4 ^ h
 unfolding tree_size
 tree_below w zero l = omega arith

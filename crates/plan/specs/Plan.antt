@@ -1,7 +1,6 @@
 -- The line that the program `tree` is given: its five numbers, their ranges, how they are spelled, and what reading it means.
-use Rattle.std.specs.Prelude.{◌≡◌, Bool, true, false, cond, List, [], ◌∷◌, ◌++◌, ℕ, eqb, ltb, leb}
+use Rattle.std.specs.Prelude.{◌≡◌, Bool, true, false, cond, List, [], ◌∷◌, ◌++◌, ℕ, eqb, ltb, leb, decimal, Option, None, Some}
 use Rattle.tables.specs.Walks.{every}
-use Rattle.text.specs.Decimal.{decimal}
 use Rattle.plan.specs.declared.Plan.{Plan}
 use Rattle.plan.specs.Tree.{tree_size}
 
@@ -18,11 +17,16 @@ first_line (b ∷ m) = cond (eqb b 10) [] (b ∷ first_line m)
 
 -- five decimal numbers separated by single spaces, each written the one way, without leading zeros
 unfoldable pub spelled : Plan → List ℕ
-spelled p = decimal 20 p.levels ++ (32 ∷ (decimal 20 p.width ++ (32 ∷ (decimal 20 p.places ++ (32 ∷ (decimal 20 p.victim ++ (32 ∷ decimal 20 p.killstep)))))))
+spelled p = decimal p.levels ++ (32 ∷ (decimal p.width ++ (32 ∷ (decimal p.places ++ (32 ∷ (decimal p.victim ++ (32 ∷ decimal p.killstep)))))))
 
 -- no plan: the line is refused
 abbrev pub no_plan : Plan
 no_plan = record { levels = 0; width = 0; places = 0; victim = 0; killstep = 0 }
+
+-- the plan that is named, or no plan
+abbrev pub named : Option Plan → Plan
+named None = no_plan
+named (Some p) = p
 
 -- r is what the input is read as: the plan that its first line spells, if that fits, else no plan
 pub record ReadsAs (input : List ℕ) (r : Plan) : Type 0 where

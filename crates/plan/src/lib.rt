@@ -1,12 +1,12 @@
 // The line that the program tree is given, read into its five numbers.
 #![tactic(auto)]
 
-ghost use Rattle.std.specs.Prelude.{◌≡◌, ◌≤◌, ◌<◌, length, drop, take};
+ghost use Rattle.std.specs.Prelude.{◌≡◌, ◌≤◌, ◌<◌, ◌==◌, true, None, Some, IfSome, MatchOption, position};
 ghost use Rattle.plan.specs.Tree.{tree_size};
-ghost use Rattle.plan.specs.Plan.{fits, first_line, ReadsAs};
-ghost use Rattle.plan.specs.Reading.{is_digit, goes_on, with_digit, read_on, number_of, word_of, last_of, plan_of, Found};
+ghost use Rattle.plan.specs.Plan.{fits, first_line, named, ReadsAs};
+ghost use Rattle.plan.specs.Reading.{goes_on, with_digit, read_on, number_of, word_of, last_of, numbers_of, plan_of};
 
-#[derive(Clone, Copy)]
+#[derive(Clone, Copy, Debug)]
 pub struct Plan {
     pub levels: u32,
     pub width: u32,
@@ -16,220 +16,142 @@ pub struct Plan {
     pub killstep: u32,
 }
 
-// What a word that is no number is read as: above every range.
-const NO_NUMBER: u32 = 65536;
-
-// What a word of the line is read as, and the place after it.
-#[derive(Drop)]
-struct Word {
-    value: u32,
-    end: usize,
+impl Plan {
+    // Whether every number is in its range, and the tree has at most 255 tasks.
+    #[tactic(auto, unfolding(crate::specs::Plan::fits, tables::specs::Walks::every))]
+    fn fits(self) -> bool
+        ensures { result ≡ fits self }
+    {
+        1 <= self.levels
+            && self.levels <= 5
+            && 1 <= self.width
+            && self.width <= 4
+            && 2 <= self.places
+            && self.places <= 8
+            && self.victim < self.places
+            && self.killstep <= 65535
+            && tree_size(self.width, self.levels) <= 255
+    }
 }
 
 // The tasks of a whole tree.
+#[tactic(auto, using(crate::proofs::Trees::tree_room), unfolding(crate::specs::Tree::tree_size))]
 fn tree_size(width: u32, levels: u32) -> u32
     requires { (width ≤ 4) × (levels ≤ 5) }
     ensures { result ≡ tree_size width levels }
 {
-    let mut s: u32 = 0;
-    let mut h: u32 = 0;
-    while h < levels {
-        s = 1 + width * s;
-        h += 1;
+    let mut tasks = 0;
+    for _level in 0..levels {
+        tasks = 1 + width * tasks;
     }
-    s
+    tasks
 }
 
-// Whether every number is in its range, and the tree has at most 255 tasks.
-fn fits(p: Plan) -> bool
-    ensures { result ≡ fits p }
-{
-    if p.levels < 1 {
-        return false;
-    }
-    if 5 < p.levels {
-        return false;
-    }
-    if p.width < 1 {
-        return false;
-    }
-    if 4 < p.width {
-        return false;
-    }
-    if p.places < 2 {
-        return false;
-    }
-    if 8 < p.places {
-        return false;
-    }
-    if p.places <= p.victim {
-        return false;
-    }
-    if 65535 < p.killstep {
-        return false;
-    }
-    if 255 < tree_size(p.width, p.levels) {
-        return false;
-    }
-    true
-}
-
-fn is_digit(b: u8) -> bool
-    ensures { result ≡ is_digit b }
-{
-    if b < b'0' {
-        return false;
-    }
-    if b'9' < b {
-        return false;
-    }
-    true
-}
-
-// Whether b is a digit more of a number that begins as v.
+// Whether b is a digit more of a number that begins as v: after a 0 there is none, and one above every range is read no further.
+#[tactic(auto, unfolding(crate::specs::Reading::goes_on, tables::specs::Walks::every))]
 fn goes_on(v: u32, b: u8) -> bool
     ensures { result ≡ goes_on v b }
 {
-    if v < 1 {
-        return false;
-    }
-    if 65535 < v {
-        return false;
-    }
-    is_digit(b)
+    1 <= v && v <= 65535 && b.is_ascii_digit()
 }
 
 // v with the digit b behind it.
+#[tactic(auto, unfolding(crate::specs::Reading::with_digit))]
 fn with_digit(v: u32, b: u8) -> u32
     requires { (v ≤ 65535) × (48 ≤ b) }
     ensures { result ≡ with_digit v b }
 {
-    10 * v + (b - b'0') as u32
+    10 * v + u32::from(b - b'0')
 }
 
-// The number that begins as v and goes on at place `at`.
-fn read_on(t: &[u8], at: usize, v: u32) -> Word
-    requires { at ≤ length t.now }
-    ensures { Found t.now (read_on v (drop at t.now)) result }
+// The number that begins as v and goes on in these bytes, and the bytes after it.
+#[tactic(auto, using(crate::proofs::Fronts::read_more, crate::proofs::Fronts::read_stops, crate::proofs::Fronts::digit_more))]
+fn read_on(v: u32, line: &[u8]) -> (u32, &[u8])
+    ensures { read_on v line.now ≡ (result.0, result.1.now) }
 {
-    let mut n = v;
-    let mut i = at;
-    while i < t.len() {
-        if goes_on(n, t[i]) {
-            n = with_digit(n, t[i]);
-            i += 1;
-        } else {
-            return Word { value: n, end: i };
-        }
-    }
-    Word { value: n, end: i }
-}
-
-// The number from place `at` on.
-fn read_number(t: &[u8], at: usize) -> Word
-    requires { at ≤ length t.now }
-    ensures { Found t.now (number_of (drop at t.now)) result }
-{
-    if t.len() <= at {
-        return Word {
-            value: NO_NUMBER,
-            end: at,
-        };
-    }
-    if is_digit(t[at]) {
-        let v = with_digit(0, t[at]);
-        return read_on(t, at + 1, v);
-    }
-    Word {
-        value: NO_NUMBER,
-        end: at,
+    match line {
+        [b, rest @ ..] if goes_on(v, *b) => read_on(with_digit(v, *b), rest),
+        _ => (v, line),
     }
 }
 
-// The number from place `at` on, and the space after it.
-fn read_word(t: &[u8], at: usize) -> Word
-    requires { at ≤ length t.now }
-    ensures { Found t.now (word_of (drop at t.now)) result }
+// The number that a line begins with, and the bytes after it.
+#[tactic(auto, using(crate::proofs::Fronts::number_begins, crate::proofs::Fronts::number_none))]
+fn read_number(line: &[u8]) -> Option<(u32, &[u8])>
+    ensures { MatchOption result (number_of line.now ≡ None) (λ r. number_of line.now ≡ Some (r.0, r.1.now)) }
 {
-    let n = read_number(t, at);
-    let e = n.end;
-    if t.len() <= e {
-        return Word {
-            value: NO_NUMBER,
-            end: e,
-        };
-    }
-    if t[e] == b' ' {
-        return Word {
-            value: n.value,
-            end: e + 1,
-        };
-    }
-    Word {
-        value: NO_NUMBER,
-        end: e,
+    match line {
+        [b, rest @ ..] if b.is_ascii_digit() => Some(read_on(with_digit(0, *b), rest)),
+        _ => None,
     }
 }
 
-// The number from place `at` on, where nothing comes after it.
-fn read_last(t: &[u8], at: usize) -> u32
-    requires { at ≤ length t.now }
-    ensures { result ≡ last_of (drop at t.now) }
+// The number that a line begins with, and the bytes after the space behind it.
+#[tactic(auto, using(crate::proofs::Fronts::word_none, crate::proofs::Fronts::word_spaced, crate::proofs::Fronts::word_not))]
+fn read_word(line: &[u8]) -> Option<(u32, &[u8])>
+    ensures { MatchOption result (word_of line.now ≡ None) (λ r. word_of line.now ≡ Some (r.0, r.1.now)) }
 {
-    let n = read_number(t, at);
-    let more = n.end < t.len();
-    if more {
-        return NO_NUMBER;
-    }
-    n.value
-}
-
-// The plan of a line.
-fn read_line(t: &[u8]) -> Plan
-    ensures { result ≡ plan_of t.now }
-{
-    let levels = read_word(t, 0);
-    let width = read_word(t, levels.end);
-    let places = read_word(t, width.end);
-    let victim = read_word(t, places.end);
-    let killstep = read_last(t, victim.end);
-    let p = Plan {
-        levels: levels.value,
-        width: width.value,
-        places: places.value,
-        victim: victim.value,
-        killstep: killstep,
-    };
-    if fits(p) {
-        return p;
-    }
-    Plan {
-        levels: 0,
-        width: 0,
-        places: 0,
-        victim: 0,
-        killstep: 0,
+    let (number, rest) = read_number(line)?;
+    match rest {
+        [b' ', rest @ ..] => Some((number, rest)),
+        _ => None,
     }
 }
 
-// The place of the first newline, or of the end.
-fn line_end(t: &[u8]) -> usize
-    ensures { (first_line t.now ≡ take result t.now) × (result ≤ length t.now) }
+// The number that is all of a line.
+#[tactic(auto, using(crate::proofs::Fronts::last_none, crate::proofs::Fronts::last_ends, crate::proofs::Fronts::last_not))]
+fn read_last(line: &[u8]) -> Option<u32>
+    ensures { result ≡ last_of line.now }
 {
-    let mut i: usize = 0;
-    while i < t.len() {
-        if t[i] == b'\n' {
-            return i;
-        }
-        i += 1;
+    let (number, rest) = read_number(line)?;
+    if !rest.is_empty() {
+        return None;
     }
-    i
+    Some(number)
 }
 
-// The plan of the first line. One that is refused has no levels.
-pub fn read_plan(input: &[u8]) -> Plan
-    ensures { ReadsAs input.now result }
+// The five numbers of a line.
+#[tactic(auto, unfolding(crate::specs::Reading::numbers_of))]
+fn read_numbers(line: &[u8]) -> Option<Plan>
+    ensures { result ≡ numbers_of line.now }
 {
-    let e = line_end(input);
-    read_line(&input[0..e])
+    let (levels, line) = read_word(line)?;
+    let (width, line) = read_word(line)?;
+    let (places, line) = read_word(line)?;
+    let (victim, line) = read_word(line)?;
+    let killstep = read_last(line)?;
+    Some(Plan {
+        levels,
+        width,
+        places,
+        victim,
+        killstep,
+    })
+}
+
+// The place of the first newline.
+fn newline(input: &[u8]) -> Option<usize>
+    ensures { result ≡ position (λ b. b == 10) input.now }
+{
+    input.iter().position(|b| *b == b'\n')
+}
+
+// What stands before the first newline, or all where there is none.
+#[tactic(auto, using(crate::proofs::Fronts::line_at, crate::proofs::Fronts::line_whole))]
+fn first_line(input: &[u8]) -> &[u8]
+    ensures { result.now ≡ first_line input.now }
+{
+    match newline(input) {
+        Some(end) => &input[..end],
+        None => input,
+    }
+}
+
+// The plan of the first line, if that names one.
+#[tactic(auto, using(crate::proofs::Lines::reads_as), unfolding(crate::specs::Reading::plan_of))]
+pub fn read_plan(input: &[u8]) -> Option<Plan>
+    ensures reads { ReadsAs input.now (named result) }
+    ensures fits { IfSome result (λ p. fits p ≡ true) }
+{
+    read_numbers(first_line(input)).filter(|p| p.fits())
 }

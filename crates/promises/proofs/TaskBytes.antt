@@ -11,7 +11,7 @@ use Rattle.rules.specs.Fields.{task_at, task_finish, is_published, opener, is_ma
 use Rattle.rules.specs.Spawn.{with_sent, first_spawn, later_spawn, is_first, spawn_step}
 use Rattle.rules.specs.Open.{opened, open_step}
 use Rattle.rules.specs.End.{end_unpublished, end_published, end_main, less_each, received_row, reported_row, end_last, end_earlier, end_other, end_step}
-use Rattle.promises.proofs.TieEnd.{less_at}
+use Rattle.rules.proofs.Less.{less_at}
 use Rattle.promises.proofs.Bytes.{Bytes, bytes_set, bytes_write, bytes_part, bytes_none, bytes_more, bytes_zeros}
 use Rattle.promises.proofs.MessageBytes.{bytes_send, bytes_cond, bytes_runs}
 

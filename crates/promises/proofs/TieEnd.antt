@@ -1,8 +1,8 @@
 -- End, in its four ways: the rule's tables are seen as the model's effect.
 use mathlib.Core.Path.{◌≡◌, refl, sym, ap, ◌∙◌}
 use mathlib.Core.Bool.{true, false, cond}
-use mathlib.Core.List.{List, [], ◌∷◌}
-use Prim.Native.Nat.{ℕ, zero, suc, ◌-◌, ◌<◌}
+use mathlib.Core.List.{List}
+use Prim.Native.Nat.{ℕ, ◌-◌, ◌<◌}
 use native.Mathlib.Omega.{arith}
 use lib.Dec.{eqb}
 use lib.ListN.{set, length, length-set}
@@ -22,6 +22,7 @@ use Rattle.promises.proofs.Walks.{zeros_at}
 use Rattle.promises.proofs.Rows.{read_opener, seen_task_status, seen_finish_status, seen_runs}
 use Rattle.promises.proofs.Slots.{seen_send}
 use Rattle.promises.proofs.LocalCells.{read_local_live, read_received_row, read_reported_row, received_row_length, seen_local_live, seen_reported}
+use Rattle.rules.proofs.Less.{less_at, less_length}
 
 -- count 1 for h
 home_count : (h : ℕ) → h < 8 → (i : ℕ) → byte (set no_counts h 1) i ≡ on (eqb h i) 1
@@ -33,21 +34,6 @@ home_count h h8 i = eq_cases h i
 home-counts-length : (h : ℕ) → length (set no_counts h 1) ≡ 8
 unfolding no_counts
 home-counts-length h = length-set no_counts h 1
-
--- received less reported, for each sender
-pub less_at : (xs ys : List ℕ) (i : ℕ) → byte (less_each xs ys) i ≡ byte xs i - byte ys i
-unfolding less_each
-less_at [] ys i = omega arith
-less_at (x ∷ xs) [] zero = omega arith
-less_at (x ∷ xs) [] (suc i) = less_at xs [] i
-less_at (x ∷ xs) (y ∷ ys) zero = refl
-less_at (x ∷ xs) (y ∷ ys) (suc i) = less_at xs ys i
-
-less_length : (xs ys : List ℕ) → length (less_each xs ys) ≡ length xs
-unfolding less_each
-less_length [] ys = refl
-less_length (x ∷ xs) [] = ap suc (less_length xs [])
-less_length (x ∷ xs) (y ∷ ys) = ap suc (less_length xs ys)
 
 -- a cell lowered by one
 lower₂ : (g : ℕ → ℕ → ℕ) (a b x y v : ℕ) → v ≡ g a b - 1 → cond (is₂ a b x y) v (g x y) ≡ g x y - on (is₂ a b x y) 1

@@ -1,73 +1,37 @@
 // Whether a session is quiet: no message in flight, no book under repair, no count owed.
 #![tactic(auto)]
 
-ghost use Rattle.std.specs.Prelude.{◌≡◌, ◌+◌, ◌≤◌, length, drop, take};
-ghost use Rattle.tables.specs.Layout.{Whole};
+ghost use Rattle.std.specs.Prelude.{◌≡◌, ℕ, drop};
 ghost use Rattle.tables.specs.Walks.{every_part};
 ghost use Rattle.rules.specs.Fields.{places, dead_mask, book_place};
-ghost use Rattle.rules.specs.Books.{under_repair, owes};
 ghost use Rattle.rules.specs.Quiet.{calm_book, quiet};
 
-use tables::Tables;
+use square::Book;
+use tables::{Finish, SessionTables, Tables};
 
-fn repairs(t: &[u8], at: usize, d: u8) -> bool
-    requires { at + 144 ≤ length t.now }
-    ensures { result ≡ under_repair d (take 144 (drop at t.now)) }
+// A book is not present, or not under repair and with no count owed: of ps places those of the dead mask d are dead.
+#[tactic(auto, unfolding(rules::specs::Quiet::calm_book, tables::specs::Walks::every))]
+fn is_calm(b: &Book, ps: u8, d: u8) -> bool
+    ensures { (f : ℕ) → result ≡ calm_book ps d b.now f }
 {
-    let e = at + 144;
-    repair::under_repair(&t[at..e], d)
+    b[Tables::PRESENT] == 0 || !repair::under_repair(b, d) && !repair::owes(b, ps, d)
 }
 
-fn owing(t: &[u8], at: usize, ps: u8, d: u8) -> bool
-    requires { at + 144 ≤ length t.now }
-    ensures { result ≡ owes ps d (take 144 (drop at t.now)) }
-{
-    let e = at + 144;
-    repair::owes(&t[at..e], ps, d)
-}
-
-// The book of f, which stands at this place: not present, or not under repair and with no count owed.
-fn is_calm(t: &[u8], at: usize, f: usize, ps: u8, d: u8) -> bool
-    requires { at + 144 ≤ length t.now }
-    ensures { result ≡ calm_book ps d (drop at t.now) f }
-{
-    if t[at] == 0 {
-        return true;
-    }
-    if repairs(t, at, d) {
-        return false;
-    }
-    if owing(t, at, ps, d) {
-        return false;
-    }
-    true
-}
-
-fn books_calm(t: &[u8]) -> bool
-    requires { Whole t.now }
+// All store books are calm.
+fn books_calm(t: &SessionTables) -> bool
     ensures { result ≡ every_part (calm_book (places t.now) (dead_mask t.now)) 144 1 32 (drop (book_place 1) t.now) }
 {
-    let ps = t[0];
-    let d = t[1];
-    let mut j: usize = 0;
-    while j < Tables::FINISHES {
-        if is_calm(t, Tables::book(1 + j), 1 + j, ps, d) {
-            j += 1;
-        } else {
-            return false;
-        }
-    }
-    true
+    (1..=Finish::COUNT).all(|f| is_calm(
+        tables::part(t, Tables::book(Finish::new(f))),
+        t[Tables::SESSION_PLACES],
+        t[Tables::DEAD_MASK],
+    ))
 }
 
 // The session is quiet.
-pub fn is_quiet(t: &[u8]) -> bool
-    requires { Whole t.now }
+#[tactic(auto, unfolding(rules::specs::Quiet::quiet, tables::specs::Walks::every))]
+pub fn is_quiet(t: &SessionTables) -> bool
     ensures { result ≡ quiet t.now }
 {
-    let flying = messages::messages_in_flight(t);
-    if flying != 0 {
-        return false;
-    }
-    books_calm(t)
+    messages::messages_in_flight(t) == 0 && books_calm(t)
 }

@@ -17,10 +17,6 @@ below {P} x y less more = go (ltb x y) refl
     go false e = more (ltb-false x y e)
 
 module _ (tag ps ts fs f k v j n : ℕ) (counts : List ℕ) where
-  pub none_tag : tag < 1 → true ≡ message_fits ps ts fs (tagged tag f k v j n counts)
-  unfolding message_fits tagged
-  none_tag h = let e : tag ≡ 0 = omega arith in rw e refl
-
   pub waits_tag : 1 ≤ tag → tag ≤ 2 → message_fits ps ts fs (publish f k) ≡ message_fits ps ts fs (tagged tag f k v j n counts)
   unfolding message_fits tagged
   waits_tag low high =

@@ -1,282 +1,138 @@
-// The ranges of document 01 on plain numbers: row 0, and the fields of one task, finish, store book and message.
+// The ranges of document 01: row 0, and the row of one task, one finish, one store book and one message.
 #![tactic(auto)]
 
-ghost use Rattle.std.specs.Prelude.{◌≡◌, List, ℕ, ◌≤◌, ◌/◌, ◌^◌};
-ghost use Rattle.rules.specs.Messages.{publish, transit, report, release, ghost_ended, dropped, tagged};
-ghost use Rattle.rules.specs.Sound.{head_sound, task_fits, finish_fits, parent_fits, book_fits, message_fits};
+ghost use Rattle.std.specs.Prelude.{◌≡◌, ℕ, ◌∷◌, [], ltb, leb};
+ghost use Rattle.tables.specs.Walks.{every};
+ghost use Rattle.rules.specs.Fields.{places, dead_mask, tasks_made, finishes_made};
+ghost use Rattle.rules.specs.Sound.{head_sound, task_sound, finish_sound, book_sound, slot_sound};
 
-use tables::wide;
+use answers::Tag;
+use tables::{SessionTables, Tables};
 
-// The bits of a mask from bit n on.
-fn bits_from(m: u8, n: u8) -> usize
-    requires { n ≤ 8 }
-    ensures { result ≡ m / 2 ^ n }
-{
-    wide(m) >> n
+// Row 0: places, dead mask, tasks made, finishes made.
+#[derive(Clone, Copy)]
+pub struct Head {
+    pub places: u8,
+    pub dead: u8,
+    pub tasks: u8,
+    pub finishes: u8,
 }
 
-// Row 0: places, dead mask, finishes made.
-pub fn head_sound(ps: u8, d: u8, fs: u8) -> bool
-    ensures { result ≡ head_sound ps d fs }
-{
-    if ps < 2 {
-        return false;
+impl Head {
+    // The head of these tables.
+    pub fn of(t: &SessionTables) -> Head
+        ensures place_count { result.places ≡ places t.now }
+        ensures dead { result.dead ≡ dead_mask t.now }
+        ensures tasks { result.tasks ≡ tasks_made t.now }
+        ensures finishes { result.finishes ≡ finishes_made t.now }
+    {
+        Head {
+            places: t[Tables::SESSION_PLACES],
+            dead: t[Tables::DEAD_MASK],
+            tasks: t[Tables::TASKS_MADE],
+            finishes: t[Tables::FINISHES_MADE],
+        }
     }
-    if 8 < ps {
-        return false;
+
+    // Places 2 to 8, finishes made to 32; the dead mask names only session places above 0.
+    #[tactic(auto, unfolding(tables::specs::Walks::every, rules::specs::Sound::head_sound))]
+    pub fn is_sound(self) -> bool
+        ensures { result ≡ head_sound self.places self.dead self.finishes }
+    {
+        2 <= self.places
+            && self.places <= 8
+            && self.finishes <= 32
+            && self.dead % 2 == 0
+            && u16::from(self.dead) >> self.places == 0
     }
-    if 32 < fs {
-        return false;
+
+    // A place of the session.
+    fn has_place(self, p: u8) -> bool
+        ensures { result ≡ ltb p self.places }
+    {
+        p < self.places
     }
-    if d % 2 != 0 {
-        return false;
+
+    // A task made.
+    #[tactic(auto, unfolding(tables::specs::Walks::every))]
+    fn has_task(self, k: u8) -> bool
+        ensures { result ≡ every (leb 1 k ∷ leb k self.tasks ∷ []) }
+    {
+        1 <= k && k <= self.tasks
     }
-    if bits_from(d, ps) != 0 {
-        return false;
+
+    // A finish made.
+    #[tactic(auto, unfolding(tables::specs::Walks::every))]
+    fn has_finish(self, f: u8) -> bool
+        ensures { result ≡ every (leb 1 f ∷ leb f self.finishes ∷ []) }
+    {
+        1 <= f && f <= self.finishes
     }
-    true
 }
 
-// The fields of task k.
-pub fn task_fits(
-    ps: u8,
-    fs: u8,
-    k: usize,
-    from: u8,
-    at: u8,
-    finish: u8,
-    status: u8,
-    sent: u8,
-    maker: usize,
-) -> bool
-    ensures { result ≡ task_fits ps fs k from at finish status sent maker }
+// The row of task k.
+#[tactic(auto, unfolding(tables::specs::Walks::every, rules::specs::Sound::task_sound, rules::specs::Sound::task_fits))]
+pub fn task_fits(head: Head, k: usize, row: &[u8; 8]) -> bool
+    ensures { result ≡ task_sound head.places head.finishes row.now k }
 {
-    if ps <= from {
-        return false;
-    }
-    if ps <= at {
-        return false;
-    }
-    if finish < 1 {
-        return false;
-    }
-    if fs < finish {
-        return false;
-    }
-    if status < 1 {
-        return false;
-    }
-    if 8 < status {
-        return false;
-    }
-    if 1 < sent {
-        return false;
-    }
-    if k <= maker {
-        return false;
-    }
-    true
+    let [from, at, finish, status, sent, maker, ..] = *row;
+    head.has_place(from)
+        && head.has_place(at)
+        && head.has_finish(finish)
+        && 1 <= status
+        && status <= 8
+        && sent <= 1
+        && usize::from(maker) < k
 }
 
-// The fields of finish f.
-pub fn finish_fits(
-    ps: u8,
-    ts: u8,
-    f: usize,
-    home: u8,
-    opener: u8,
-    parent: usize,
-    status: u8,
-    shown: u8,
-    main: u8,
-) -> bool
-    ensures { result ≡ finish_fits ps ts f home opener parent status shown main }
+// The row of finish f.
+#[tactic(auto, unfolding(tables::specs::Walks::every, rules::specs::Sound::finish_sound, rules::specs::Sound::finish_fits))]
+pub fn finish_fits(head: Head, f: usize, row: &[u8; 8]) -> bool
+    ensures { result ≡ finish_sound head.places head.tasks row.now f }
 {
-    if ps <= home {
-        return false;
-    }
-    if main <= opener {
-        return false;
-    }
-    if f <= parent {
-        return false;
-    }
-    if status < 1 {
-        return false;
-    }
-    if 5 < status {
-        return false;
-    }
-    if 1 < shown {
-        return false;
-    }
-    if main < 1 {
-        return false;
-    }
-    if ts < main {
-        return false;
-    }
-    true
+    let [home, opener, parent, status, published, main, ..] = *row;
+    head.has_place(home)
+        && opener < main
+        && usize::from(parent) < f
+        && 1 <= status
+        && status <= 5
+        && published <= 1
+        && head.has_task(main)
 }
 
-// An adopted book has a parent.
-fn parent_fits(adopted: u8, parent: usize) -> bool
-    ensures { result ≡ parent_fits adopted parent }
+// The first row of the store book of finish f: nothing is asked where no book is present; an adopted book has a parent.
+#[tactic(auto, unfolding(tables::specs::Walks::every, rules::specs::Sound::book_sound, rules::specs::Sound::book_fits, rules::specs::Sound::parent_fits))]
+pub fn book_fits(head: Head, f: usize, row: &[u8; 8]) -> bool
+    ensures { result ≡ book_sound head.finishes row.now f }
 {
-    if adopted == 1 {
-        return 1 <= parent;
-    }
-    true
+    let [present, parent, due, adopted, ..] = *row;
+    present == 0
+        || present == 1
+            && f <= usize::from(head.finishes)
+            && usize::from(parent) < f
+            && due <= 1
+            && adopted <= 1
+            && (adopted != 1 || 1 <= parent)
 }
 
-// The fields of the store book of finish f.
-pub fn book_fits(fs: usize, f: usize, present: u8, parent: usize, due: u8, adopted: u8) -> bool
-    ensures { result ≡ book_fits fs f present parent due adopted }
+// The message in a slot, by its tag: the fields that the tag uses.
+#[tactic(auto, unfolding(tables::specs::Walks::every, rules::specs::Sound::slot_sound, rules::specs::Sound::message_fits, rules::specs::Messages::message_in, rules::specs::Messages::tagged))]
+pub fn message_fits(head: Head, slot: &[u8; 16]) -> bool
+    ensures { (s : ℕ) → result ≡ slot_sound head.places head.tasks head.finishes slot.now s }
 {
-    if present == 0 {
-        return true;
-    }
-    if present != 1 {
-        return false;
-    }
-    if fs < f {
-        return false;
-    }
-    if f <= parent {
-        return false;
-    }
-    if 1 < due {
-        return false;
-    }
-    if 1 < adopted {
-        return false;
-    }
-    parent_fits(adopted, parent)
-}
-
-// Tags 1 and 2: finish and task.
-fn waits_fits(ts: u8, fs: u8, f: u8, k: u8) -> bool
-    ensures { (ps : ℕ) → result ≡ message_fits ps ts fs (publish f k) }
-{
-    if f < 1 {
-        return false;
-    }
-    if fs < f {
-        return false;
-    }
-    if k < 1 {
-        return false;
-    }
-    if ts < k {
-        return false;
-    }
-    true
-}
-
-// Tags 3 to 6: finish, task, from and to.
-fn moves_fits(ps: u8, ts: u8, fs: u8, f: u8, k: u8, from: u8, to: u8) -> bool
-    ensures { result ≡ message_fits ps ts fs (transit f k from to) }
-{
-    if f < 1 {
-        return false;
-    }
-    if fs < f {
-        return false;
-    }
-    if k < 1 {
-        return false;
-    }
-    if ts < k {
-        return false;
-    }
-    if ps <= from {
-        return false;
-    }
-    if ps <= to {
-        return false;
-    }
-    true
-}
-
-// Tag 7: finish and from.
-fn report_fits(ps: u8, fs: u8, f: u8, from: u8) -> bool
-    ensures { (ts : ℕ) (counts : List ℕ) → result ≡ message_fits ps ts fs (report f from counts) }
-{
-    if f < 1 {
-        return false;
-    }
-    if fs < f {
-        return false;
-    }
-    if ps <= from {
-        return false;
-    }
-    true
-}
-
-// Tag 8: finish.
-fn release_fits(fs: u8, f: u8) -> bool
-    ensures { (ps ts : ℕ) → result ≡ message_fits ps ts fs (release f) }
-{
-    if f < 1 {
-        return false;
-    }
-    if fs < f {
-        return false;
-    }
-    true
-}
-
-// Tag 9: parent and ghost.
-fn ghost_fits(fs: u8, q: u8, g: u8) -> bool
-    ensures { (ps ts : ℕ) → result ≡ message_fits ps ts fs (ghost_ended q g) }
-{
-    if q < 1 {
-        return false;
-    }
-    if fs < q {
-        return false;
-    }
-    if g < 1 {
-        return false;
-    }
-    if fs < g {
-        return false;
-    }
-    true
-}
-
-// Tags 10 and 11: finish, from and to.
-fn dropped_fits(ps: u8, fs: u8, f: u8, from: u8, to: u8) -> bool
-    ensures { (ts k n : ℕ) → result ≡ message_fits ps ts fs (dropped f k from to n) }
-{
-    if f < 1 {
-        return false;
-    }
-    if fs < f {
-        return false;
-    }
-    if ps <= from {
-        return false;
-    }
-    if ps <= to {
-        return false;
-    }
-    true
-}
-
-// The fields that a tag uses.
-pub fn message_fits(ps: u8, ts: u8, fs: u8, tag: u8, f: u8, k: u8, from: u8, to: u8, n: u8) -> bool
-    requires { tag ≤ 11 }
-    ensures { (counts : List ℕ) → result ≡ message_fits ps ts fs (tagged tag f k from to n counts) }
-{
-    match tag {
-        1..=2 => waits_fits(ts, fs, f, k),
-        3..=6 => moves_fits(ps, ts, fs, f, k, from, to),
-        7 => report_fits(ps, fs, f, from),
-        8 => release_fits(fs, f),
-        9 => ghost_fits(fs, f, n),
-        10..=11 => dropped_fits(ps, fs, f, from, to),
-        _ => true,
+    let [tag, f, k, from, to, n, ..] = *slot;
+    match Tag::try_from(tag) {
+        Ok(Tag::Publish | Tag::Published) => head.has_finish(f) && head.has_task(k),
+        Ok(Tag::Transit | Tag::Granted | Tag::Denied | Tag::Task) => head.has_finish(f)
+            && head.has_task(k)
+            && head.has_place(from)
+            && head.has_place(to),
+        Ok(Tag::Report) => head.has_finish(f) && head.has_place(from),
+        Ok(Tag::Release) => head.has_finish(f),
+        Ok(Tag::GhostEnded) => head.has_finish(f) && head.has_finish(n),
+        Ok(Tag::CountDropped | Tag::Dropped) => head.has_finish(f)
+            && head.has_place(from)
+            && head.has_place(to),
+        Err(_) => tag == 0,
     }
 }

@@ -3,3 +3,5 @@ pub mod Taken
 pub mod Joins
 pub mod Errors
 pub mod Sends
+pub mod Less
+pub mod Checks

@@ -18,7 +18,7 @@ use Rattle.rules.proofs.Taken.{taken, not-not, neither, slot_there}
 use Rattle.model.specs.Base.Cases.{cond_cases, both}
 use Rattle.promises.specs.Settling.{record_of, is_settling}
 use Rattle.turns.specs.Turn.{adopt_record, cancel_record, ask_record, deliver_record}
-use Rattle.run.proofs.Choices.{NoneOf}
+use Rattle.turns.proofs.First.{NoneOf}
 
 four : (r : List ℕ) → length r ≡ 4 → r ≡ byte r 0 ∷ byte r 1 ∷ byte r 2 ∷ byte r 3 ∷ []
 four [] e = absurd (omega arith)

@@ -1,4 +1,3 @@
-pub mod Choices
 pub mod Cover
 pub mod Lowest
 pub mod TurnOf

@@ -12,7 +12,7 @@ use Rattle.model.specs.Base.Cases.{eq_cases, or_cases, or_left, or_right, both}
 use Rattle.turns.specs.Choice.{taken_or}
 use Rattle.turns.specs.Turn.{adopt_record, cancel_record, ask_record, deliver_record, repair_or}
 use Rattle.run.specs.Lowest.{precedes, is_of, Lowest, lowest, none, LowestRepair, LowestDeliver}
-use Rattle.run.proofs.Choices.{NoneOf, taken_or_lem}
+use Rattle.turns.proofs.First.{NoneOf, taken_or_lem}
 use Rattle.run.proofs.Cover.{Covers, refused, deliver_covers, adopt_covers, cancel_covers, ask_covers}
 
 -- bytes do not come before others that begin no higher, if the rest does not where they begin alike

@@ -18,7 +18,7 @@ use Rattle.acts.specs.First.{first_from}
 use Rattle.turns.specs.Choice.{taken_or}
 use Rattle.acts.specs.Acts.{next_act, lowest_running, act_of}
 use Rattle.turns.specs.Turn.{adopt_record, cancel_record, ask_record, deliver_record, kill_record, kill_due, repair_or, turn_record}
-use Rattle.run.proofs.Choices.{first_low, first_holds, first-none, taken_or_lem}
+use Rattle.turns.proofs.First.{first_low, first_holds, first-none, taken_or_lem}
 use Rattle.run.proofs.Cover.{Still, none_settles}
 
 pub data TurnOf (p : Plan) (t : List ℕ) : List ℕ → Type 0 where

@@ -1,1 +1,2 @@
 pub mod Use
+pub mod Looks

@@ -42,10 +42,6 @@ head_tells ps d fs e =
       finishes = leb-true fs 32 h.1.1.0;
     }
 
--- the head test passed, as the code holds it
-pub head_finishes : (ps d fs : ℕ) (v : Bool) → v ≡ head_sound ps d fs → v ≡ true → fs ≤ 32
-head_finishes ps d fs v e z = (head_tells ps d fs (sym e ∙ z)).finishes
-
 -- ---- the rows
 -- task k
 pub record TaskRanges (t : List ℕ) (k : ℕ) : Type 0 where

@@ -1,3 +1,4 @@
+pub mod Live
 pub mod Sums
 pub mod Columns
 pub mod New

@@ -1,15 +1,15 @@
 -- A loop that sums: one byte or one row more; and the square by value has the sums of the book that it was taken from.
 use mathlib.Core.Path.{◌≡◌, refl, sym, ap, ◌∙◌}
-use mathlib.Core.List.{List}
+use mathlib.Core.List.{List, []}
 use Prim.Native.Nat.{ℕ, zero, suc, ◌+◌, ◌*◌, ◌≤◌, ◌<◌}
 use native.Mathlib.Nat.{zero-add, mul-suc}
-use native.Mathlib.Numerals.{add-one}
 use native.Mathlib.Omega.{arith}
+use lib.ListN.{get_or}
 use Rattle.tables.specs.Bytes.{byte, part}
 use Rattle.tables.specs.Walks.{sum_bytes}
 use Rattle.tables.proofs.Writes.{byte-part}
-use Rattle.rules.specs.Books.{total, column}
-use Rattle.square.specs.Square.{live_of, row_at, rows_sum, cell_at, whole_row}
+use Rattle.square.specs.Square.{live_of}
+use Rattle.square.proofs.Live.{live_row}
 
 -- n and then l bytes
 pub sum-add : (m : List ℕ) (k w n l : ℕ) → sum_bytes m k w (n + l) ≡ sum_bytes m k w n + sum_bytes m (k + w * n) w l
@@ -22,63 +22,17 @@ sum-add m k w (suc n) l =
     let y : k + w + w * n ≡ k + w * suc n = omega (arith, mul-suc w n) in
     rw z (omega (arith, sum-add m (k + w) w n l, ap (λ (x : ℕ). sum_bytes m x w l) y))
 
--- a turn of the loop: r is the byte at place k + i
-pub sum_more : (m : List ℕ) (k i c r : ℕ) → c ≡ sum_bytes m k 1 i → r ≡ byte m (k + i) → c + r ≡ sum_bytes m k 1 (i + 1)
-unfolding sum_bytes
-sum_more m k i c r inv e =
-    let z : k + 1 * i ≡ k + i = omega arith in
-    omega (arith, sum-add m k 1 i 1, ap (λ (x : ℕ). byte m x) z)
-
-pub sum_done : (m : List ℕ) (k n i c : ℕ) → n ≤ i → i ≤ n → c ≡ sum_bytes m k 1 i → c ≡ sum_bytes m k 1 n
-sum_done m k n i c h l inv = let e : i ≡ n = omega arith in inv ∙ ap (λ (x : ℕ). sum_bytes m k 1 x) e
-
-pub sum-none : (m : List ℕ) (k w : ℕ) → 0 ≡ sum_bytes m k w 0
-unfolding sum_bytes
-sum-none m k w = refl
-
-module _ (g : List ℕ → ℕ) (q : List (List ℕ)) where
-  pub rows_none : 0 ≡ rows_sum g q 0
-  unfolding rows_sum
-  rows_none = refl
-
-  pub rows_more : (i c r : ℕ) → c ≡ rows_sum g q i → r ≡ g (row_at q i) → c + r ≡ rows_sum g q (i + 1)
-  unfolding rows_sum
-  rows_more i c r inv e = rw (add-one i, inv, e) refl
-
-  pub rows_done : (n i c : ℕ) → n ≤ i → i ≤ n → c ≡ rows_sum g q i → c ≡ rows_sum g q n
-  rows_done n i c h l inv = let e : i ≡ n = omega arith in inv ∙ ap (rows_sum g q) e
-
--- row n of the square
-live_row : (b : List ℕ) (n : ℕ) → n < 8 → row_at (live_of b) n ≡ part b (8 + 8 * n) 8
-unfolding live_of
-live_row b zero h = refl
-live_row b (suc zero) h = refl
-live_row b (suc (suc zero)) h = refl
-live_row b (suc (suc (suc zero))) h = refl
-live_row b (suc (suc (suc (suc zero)))) h = refl
-live_row b (suc (suc (suc (suc (suc zero))))) h = refl
-live_row b (suc (suc (suc (suc (suc (suc zero)))))) h = refl
-live_row b (suc (suc (suc (suc (suc (suc (suc zero))))))) h = refl
-live_row b (suc (suc (suc (suc (suc (suc (suc (suc n)))))))) h = absurd (omega arith)
-
 pub sum_last : (m : List ℕ) (k w n : ℕ) → sum_bytes m k w (suc n) ≡ sum_bytes m k w n + byte m (k + w * n)
 unfolding sum_bytes
 sum_last m k w n =
     let z : n + 1 ≡ suc n = omega arith in
     sym (ap (sum_bytes m k w) z) ∙ omega (arith, sum-add m k w n 1)
 
-column-rows : (b : List ℕ) (v n : ℕ) → v < 8 → n ≤ 8 → rows_sum (cell_at v) (live_of b) n ≡ sum_bytes b (8 + v) 8 n
-unfolding rows_sum
-column-rows b v zero h l = sum-none b (8 + v) 8
-column-rows b v (suc n) h l =
-    let z : 8 + 8 * n + v ≡ 8 + v + 8 * n = omega arith in
-    let e : byte (row_at (live_of b) n) v ≡ byte b (8 + v + 8 * n) =
-    ap (λ (r : List ℕ). byte r v) (live_row b n (omega arith)) ∙ byte-part b (8 + 8 * n) 8 v h ∙ ap (λ (x : ℕ). byte b x) z in
-    rw (column-rows b v n h (omega arith), e) (sym (sum_last b (8 + v) 8 n))
-
-pub column-live : (b : List ℕ) (q : List (List ℕ)) (v r : ℕ) → v < 8 → q ≡ live_of b → r ≡ rows_sum (cell_at v) q 8 → r ≡ column b v
-unfolding column
-column-live b q v r h e g = g ∙ ap (λ (x : List (List ℕ)). rows_sum (cell_at v) x 8) e ∙ column-rows b v 8 h (omega arith)
+-- a turn of the loop: r is the byte at place `at`, w after the one before
+pub sum_more : (m : List ℕ) (k w i at s r : ℕ) → s ≡ sum_bytes m k w i → r ≡ byte m at → k + w * i ≡ at → s + r ≡ sum_bytes m k w (i + 1)
+sum_more m k w i at s r inv e place =
+    let z : i + 1 ≡ suc i = omega arith in
+    rw z (omega (arith, sum_last m k w i, ap (byte m) place))
 
 -- the bytes of a part, summed
 sum-part : (b : List ℕ) (k l n j : ℕ) → j + n ≤ l → sum_bytes (part b k l) j 1 n ≡ sum_bytes b (k + j) 1 n
@@ -88,16 +42,27 @@ sum-part b k l (suc n) j h =
     let z : k + (j + 1) ≡ k + j + 1 = omega arith in
     rw (byte-part b k l j (omega arith), sum-part b k l n (j + 1) (omega arith), z) refl
 
-sum_rows : (b : List ℕ) (n : ℕ) → n ≤ 8 → rows_sum whole_row (live_of b) n ≡ sum_bytes b 8 1 (8 * n)
-unfolding rows_sum
-sum_rows b zero l = sum-none b 8 1
-sum_rows b (suc n) l =
-    let z : 8 * suc n ≡ 8 * n + 8 = omega arith in
-    let y : 8 + 1 * (8 * n) ≡ 8 + 8 * n + 0 = omega arith in
-    let e : sum_bytes (row_at (live_of b) n) 0 1 8 ≡ sum_bytes b (8 + 8 * n + 0) 1 8 =
-    ap (λ (r : List ℕ). sum_bytes r 0 1 8) (live_row b n (omega arith)) ∙ sum-part b (8 + 8 * n) 8 8 0 (omega arith) in
-    rw (z, sum-add b 8 1 (8 * n) 8, sum_rows b n (omega arith), e, y) refl
+pub part_sum : (b : List ℕ) (k n r : ℕ) → r ≡ sum_bytes (part b k n) 0 1 n → r ≡ sum_bytes b k 1 n
+part_sum b k n r e = let z : k + 0 ≡ k = omega arith in e ∙ sum-part b k n n 0 (omega arith) ∙ ap (λ (x : ℕ). sum_bytes b x 1 n) z
 
-pub total-live : (b : List ℕ) (q : List (List ℕ)) (r : ℕ) → q ≡ live_of b → r ≡ rows_sum whole_row q 8 → r ≡ total b
-unfolding total
-total-live b q r e g = g ∙ ap (λ (x : List (List ℕ)). rows_sum whole_row x 8) e ∙ sum_rows b 8 (omega arith)
+module _ (b : List ℕ) (q : List (List ℕ)) (live : q ≡ live_of b) (i s r : ℕ) (h : i < 8) where
+  row : get_or q i [] ≡ part b (8 + 8 * i) 8
+  row = ap (λ (x : List (List ℕ)). get_or x i []) live ∙ live_row b i h
+
+  -- a row of the square more
+  pub total_more : s ≡ sum_bytes b 8 1 (8 * i) → r ≡ sum_bytes (get_or q i []) 0 1 8 → s + r ≡ sum_bytes b 8 1 (8 * (i + 1))
+  total_more inv e =
+      let z : 8 * (i + 1) ≡ 8 * i + 8 = omega arith in
+      let y : 8 + 1 * (8 * i) ≡ 8 + 8 * i = omega arith in
+      let g : r ≡ sum_bytes b (8 + 8 * i) 1 8 = part_sum b (8 + 8 * i) 8 r (e ∙ ap (λ (x : List ℕ). sum_bytes x 0 1 8) row) in
+      rw (z, sum-add b 8 1 (8 * i) 8, y) (omega arith)
+
+  -- a cell of its column v more
+  pub column_more : (v : ℕ) → v < 8 → s ≡ sum_bytes b (8 + v) 8 i → r ≡ byte (get_or q i []) v → s + r ≡ sum_bytes b (8 + v) 8 (i + 1)
+  column_more v l inv e =
+      sum_more b (8 + v) 8 i (8 + 8 * i + v) s r inv (e ∙ ap (λ (x : List ℕ). byte x v) row ∙ byte-part b (8 + 8 * i) 8 v l) (omega arith)
+
+  pub cell_fits : (v : ℕ) → v < 8 → ((j : ℕ) → byte b j < 256) → r ≡ byte (get_or q i []) v → r < 256
+  cell_fits v l fits e = rw (e, row, byte-part b (8 + 8 * i) 8 v l) (fits (8 + 8 * i + v))
+
+pub ruleset column_turns = (column_more, cell_fits)

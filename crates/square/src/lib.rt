@@ -1,190 +1,124 @@
-// One store book, a part of 144 bytes: its live counts as a square by value, the sums and tests of it, and its columns written.
+// One store book by itself: its live counts as a square by value, the sums and tests of it, its columns written, and a new one.
 #![tactic(auto)]
 
-ghost use Rattle.std.specs.Prelude.{◌≡◌, ◌+◌, ◌*◌, ◌≤◌, ◌<◌, leb, length};
-ghost use Rattle.tables.specs.Bytes.{byte, part, write};
+ghost use Rattle.std.specs.Prelude.{◌≡◌, ◌*◌, ◌≤◌, ◌+◌, ◌<◌};
+ghost use Rattle.tables.specs.Bytes.{part};
 ghost use Rattle.tables.specs.Walks.{sum_bytes};
-ghost use Rattle.rules.specs.Books.{total, column, ghosts, clear_row, cleared_column, lower_row, lowered_column};
+ghost use Rattle.rules.specs.Books.{total, column, ghosts, cleared_column, lowered_column};
 ghost use Rattle.rules.specs.Closing.{closes};
 ghost use Rattle.rules.specs.Deliver.{lowers, new_book};
-ghost use Rattle.square.specs.Square.{live_of, rows_sum, cell_at, whole_row};
+ghost use Rattle.square.specs.Square.{live_of};
+
+use std::array;
+use tables::{Place, Tables};
+
+// A store book, all bytes of its 18 rows.
+pub type Book = [u8; 144];
 
 // The live counts: row i, byte j, from i, at j.
-pub fn live_of(b: &[u8]) -> [[u8; 8]; 8]
-    requires { length b.now ≡ 144 }
+#[tactic(auto, using(crate::proofs::Live::live_rows))]
+pub fn live_of(b: &Book) -> [[u8; 8]; 8]
     ensures { result ≡ live_of b.now }
 {
-    let r0 = tables::row_of(b, 8);
-    let r1 = tables::row_of(b, 16);
-    let r2 = tables::row_of(b, 24);
-    let r3 = tables::row_of(b, 32);
-    let r4 = tables::row_of(b, 40);
-    let r5 = tables::row_of(b, 48);
-    let r6 = tables::row_of(b, 56);
-    let r7 = tables::row_of(b, 64);
-    [r0, r1, r2, r3, r4, r5, r6, r7]
+    array::from_fn(
+        |i: usize| -> [u8; 8]
+            requires { i < 8 }
+            ensures { result ≡ part b.entry.now (8 + 8 * i) 8 }
+        { *tables::part(b, Tables::LIVE + 8 * i) },
+    )
 }
 
-fn wide(x: u8) -> u32
-    ensures { (result ≡ x) × (result < 256) }
+// The sum of a few bytes.
+#[tactic(auto, using(crate::proofs::Sums::sum_more), unfolding(tables::specs::Walks::sum_bytes))]
+fn sum_of<const N: usize>(bytes: &[u8; N]) -> u32
+    requires { N ≤ 8 }
+    ensures { (result ≡ sum_bytes bytes.now 0 1 N) × (result ≤ 255 * N) }
 {
-    x as u32
-}
-
-// The sum of the n bytes from place `at` on.
-fn sum_of(b: &[u8], at: usize, n: usize) -> u32
-    requires { (at + n ≤ length b.now) × (n ≤ 8) }
-    ensures { (result ≡ sum_bytes b.now at 1 n) × (result ≤ 255 * n) }
-{
-    let mut c: u32 = 0;
-    let mut i: usize = 0;
-    while i < n {
-        c += wide(b[at + i]);
-        i += 1;
+    let mut sum = 0;
+    for x in bytes {
+        sum += u32::from(*x);
     }
-    c
-}
-
-fn row_sum(row: [u8; 8]) -> u32
-    ensures { (result ≡ whole_row row) × (result ≤ 2040) }
-{
-    sum_of(&row, 0, 8)
-}
-
-// The sum of a square.
-fn square_sum(q: [[u8; 8]; 8]) -> u32
-    ensures { result ≡ rows_sum whole_row q 8 }
-{
-    let mut c: u32 = 0;
-    let mut i: usize = 0;
-    while i < 8 {
-        c += row_sum(q[i]);
-        i += 1;
-    }
-    c
-}
-
-// The sum of column v of a square.
-fn column_sum(q: [[u8; 8]; 8], v: usize) -> u32
-    requires { v < 8 }
-    ensures { result ≡ rows_sum (cell_at v) q 8 }
-{
-    let mut c: u32 = 0;
-    let mut i: usize = 0;
-    while i < 8 {
-        c += wide(q[i][v]);
-        i += 1;
-    }
-    c
+    sum
 }
 
 // The sum of the live counts.
-pub fn total_of(b: &[u8]) -> u32
-    requires { length b.now ≡ 144 }
+#[tactic(auto, using(crate::proofs::Sums::total_more), unfolding(rules::specs::Books::total, tables::specs::Walks::sum_bytes))]
+pub fn total_of(b: &Book) -> u32
     ensures { result ≡ total b.now }
 {
-    square_sum(live_of(b))
+    let mut sum = 0;
+    for row in live_of(b) {
+        sum += sum_of(&row);
+    }
+    sum
 }
 
 // The sum of the live counts at place v.
-pub fn column_of(b: &[u8], v: usize) -> u32
-    requires { (length b.now ≡ 144) × (v < 8) }
+#[tactic(auto, using(crate::proofs::Sums::column_turns), unfolding(rules::specs::Books::column, tables::specs::Walks::sum_bytes))]
+pub fn column_of(b: &Book, v: Place) -> u32
     ensures { result ≡ column b.now v }
 {
-    column_sum(live_of(b), v)
+    let mut sum = 0;
+    for row in live_of(b) {
+        sum += u32::from(row[v.index()]);
+    }
+    sum
 }
 
 // The sum of the four bytes of ghosts.
-pub fn ghosts_of(b: &[u8]) -> u32
-    requires { length b.now ≡ 144 }
+#[tactic(auto, using(crate::proofs::Sums::part_sum), unfolding(rules::specs::Books::ghosts))]
+pub fn ghosts_of(b: &Book) -> u32
     ensures { result ≡ ghosts b.now }
 {
-    sum_of(b, 4, 4)
+    sum_of(tables::part::<4>(b, Tables::GHOSTS))
 }
 
 // The closing test: total 0 and no ghosts.
-pub fn closes(b: &[u8]) -> bool
-    requires { length b.now ≡ 144 }
+#[tactic(auto, using(tables::proofs::Tests::tests), unfolding(rules::specs::Closing::closes, tables::specs::Walks::every))]
+pub fn closes(b: &Book) -> bool
     ensures { result ≡ closes b.now }
 {
-    let live = total_of(b);
-    if live != 0 {
-        return false;
-    }
-    let left = ghosts_of(b);
-    left == 0
-}
-
-fn count_fits(b: &[u8], v: usize, counts: [u8; 8], i: usize) -> bool
-    requires { (length b.now ≡ 144) × ((v < 8) × (i < 8)) }
-    ensures { result ≡ leb (byte counts i) (byte b.now (8 + 8 * i + v)) }
-{
-    counts[i] <= b[8 + 8 * i + v]
+    total_of(b) == 0 && ghosts_of(b) == 0
 }
 
 // No count of a sender is above its cell in column v.
-pub fn lowers(b: &[u8], v: usize, counts: [u8; 8]) -> bool
-    requires { (length b.now ≡ 144) × (v < 8) }
+pub fn lowers(b: &Book, v: Place, counts: [u8; 8]) -> bool
     ensures { result ≡ lowers b.now v counts }
 {
-    let mut n: usize = 8;
-    while 0 < n {
-        if count_fits(b, v, counts, n - 1) {
-            n -= 1;
-        } else {
-            return false;
-        }
-    }
-    true
-}
-
-fn clear_row(b: &mut [u8], at: usize, v: usize)
-    requires { (at + 8 ≤ length b.old) × (v < 8) }
-    ensures { b.new ≡ write b.old at (clear_row v (part b.old at 8) 0) }
-{
-    b[at + v] = 0;
+    (0..8).all(|i| counts[i] <= b[Tables::LIVE + 8 * i + v.index()])
 }
 
 // Column v of the live counts becomes 0.
-pub fn clear_column(b: &mut [u8], v: usize)
-    requires { (length b.old ≡ 144) × (v < 8) }
+#[tactic(auto, using(crate::proofs::Columns::clear_turns), unfolding(rules::specs::Books::cleared_column))]
+pub fn clear_column(b: &mut Book, v: Place)
     ensures { b.new ≡ cleared_column b.old v }
 {
-    let mut j: usize = 0;
-    while j < 8 {
-        clear_row(b, 8 + 8 * j, v);
-        j += 1;
+    for i in 0..8 {
+        b[Tables::LIVE + 8 * i + v.index()] = 0;
     }
 }
 
-fn lower_row(b: &mut [u8], at: usize, v: usize, counts: [u8; 8], i: usize)
-    requires { (at + 8 ≤ length b.old) × ((v < 8) × (i < 8)) }
-    ensures { b.new ≡ write b.old at (lower_row v counts (part b.old at 8) i) }
-{
-    let x = tables::less(b[at + v], counts[i]);
-    b[at + v] = x;
-}
-
 // Column v of the live counts is lowered by a count of each sender, to 0 at the least.
-pub fn lower_column(b: &mut [u8], v: usize, counts: [u8; 8])
-    requires { (length b.old ≡ 144) × (v < 8) }
+#[tactic(auto, using(crate::proofs::Columns::lower_turns), unfolding(rules::specs::Books::lowered_column))]
+pub fn lower_column(b: &mut Book, v: Place, counts: [u8; 8])
     ensures { b.new ≡ lowered_column b.old v counts }
 {
-    let mut j: usize = 0;
-    while j < 8 {
-        lower_row(b, 8 + 8 * j, v, counts, j);
-        j += 1;
+    for i in 0..8 {
+        let cell = Tables::LIVE + 8 * i + v.index();
+        b[cell] = b[cell].saturating_sub(counts[i]);
     }
 }
 
 // A new book with live and sent 1 at h, h; its parent is q.
-pub fn write_new(b: &mut [u8], h: usize, q: u8)
-    requires { (length b.old ≡ 144) × (h < 8) }
-    ensures { b.new ≡ new_book h q }
+#[tactic(auto, using(crate::proofs::New::new_book_lem))]
+pub fn new_book(h: Place, q: u8) -> Book
+    ensures { result ≡ new_book h q }
 {
-    tables::clear(b);
-    b[0] = 1;
-    b[1] = q;
-    b[8 + 8 * h + h] = 1;
-    b[72 + 8 * h + h] = 1;
+    let h = h.index();
+    let mut b = [0; 144];
+    b[Tables::PRESENT] = 1;
+    b[Tables::PARENT] = q;
+    b[Tables::LIVE + 8 * h + h] = 1;
+    b[Tables::SENT + 8 * h + h] = 1;
+    b
 }

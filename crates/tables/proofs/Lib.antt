@@ -1,7 +1,7 @@
 pub mod Writes
 pub mod Walks
 pub mod Changes
-pub mod Places
 pub mod Bits
 pub mod Tests
 pub mod Below
+pub mod Rows

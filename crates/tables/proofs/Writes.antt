@@ -1,14 +1,12 @@
 -- What a write leaves in each byte and each part, and what a run of stores, a part lent and a loop of stores have written.
 use mathlib.Core.Path.{◌≡◌, refl, sym, ap, ◌∙◌}
 use mathlib.Core.Logic.{◌⊎◌, inl, inr}
-use mathlib.Core.List.{List, [], ◌∷◌, ◌++◌, append-nil, append_assoc}
+use mathlib.Core.List.{List, [], ◌∷◌, ◌++◌, append_assoc}
 use Prim.Native.Nat.{ℕ, zero, suc, ◌+◌, ◌-◌, ◌≤◌, ◌<◌}
 use native.Mathlib.Nat.{add-zero, zero-add, suc-add}
-use native.Mathlib.Numerals.{add-one}
 use native.Mathlib.Omega.{arith}
-use borrow.Author.Fill.{fill_more}
-use lib.ListN.{set, length, drop, take, replicate, length-drop, length-replicate, drop_of_length-le}
-use lib.Seq.{sets, sets-eq, length-sets, paste, paste-suc, take_all, drop-drop, get_or-drop, get_or-take, length-take-le}
+use lib.ListN.{set, length, drop, take, replicate, length-drop, length-replicate}
+use lib.Seq.{sets, sets-eq, length-sets, drop-drop, get_or-drop, get_or-take, length-take-le}
 use Rattle.tables.specs.Bytes.{byte, part, over, write}
 
 pub write_end : (t vs : List ℕ) → write t 0 vs ≡ over vs t
@@ -36,10 +34,6 @@ write-sets (v ∷ vs) t k = write-first t k v vs ∙ write-sets vs (set t k v) (
 
 pub length-write : (vs t : List ℕ) (k : ℕ) → length (write t k vs) ≡ length t
 length-write vs t k = ap length (write-sets vs t k) ∙ length-sets t k vs
-
--- a store is one byte written
-pub write_one : (t : List ℕ) (k v : ℕ) → set t k v ≡ write t k (v ∷ [])
-write_one t k v = sym (write-first t k v [] ∙ write-none (set t k v) (suc k))
 
 -- bytes written after bytes written
 sets-after : (vs t : List ℕ) (k : ℕ) (us : List ℕ) → sets (sets t k vs) (k + length vs) us ≡ sets t k (vs ++ us)
@@ -94,11 +88,6 @@ write-part-write (x ∷ t) (suc k) n j vs h =
 pub write-part-set : (t : List ℕ) (k n j v : ℕ) → j < n → write t k (set (part t k n) j v) ≡ set t (k + j) v
 write-part-set t k n j v h =
     ap (write t k) (sym (write-sets (v ∷ []) (part t k n) j)) ∙ write-part-write t k n j (v ∷ []) (omega arith) ∙ write-sets (v ∷ []) t (k + j)
-
--- nothing of it
-pub write_same : (t : List ℕ) (k n : ℕ) → write t k (part t k n) ≡ t
-write_same t k n =
-    ap (write t k) (sym (write-none (part t k n) 0)) ∙ write-part-write t k n 0 [] (omega arith) ∙ write-none t (k + 0)
 
 -- ---- a part lent by & or &mut t[a..e], and what comes back of the second
 pub part_lent : (t : List ℕ) (a e n : ℕ) → e - a ≡ n → take (e - a) (drop a t) ≡ part t a n
@@ -164,30 +153,3 @@ byte-write_out (x ∷ t) (suc k) vs zero (inl h) = refl
 byte-write_out (x ∷ t) (suc k) vs zero (inr h) = absurd (omega arith)
 byte-write_out (x ∷ t) (suc k) vs (suc q) (inl h) = byte-write_out t k vs q (inl (omega arith))
 byte-write_out (x ∷ t) (suc k) vs (suc q) (inr h) = byte-write_out t k vs q (inr (omega arith))
-
--- ---- a loop that sets every byte to 0
-pub clear_more : (b₀ b : List ℕ) (i : ℕ) → i < length b → length b ≡ length b₀ → b ≡ replicate i 0 ++ drop i b₀ → set b i 0 ≡ replicate (i + 1) 0 ++ drop (i + 1) b₀
-clear_more b₀ b i h l inv = rw inv (fill_more i 0 b₀ (omega arith))
-
-pub clear_done : (b₀ b : List ℕ) (i : ℕ) → length b ≤ i → length b ≡ length b₀ → i ≤ length b₀ → b ≡ replicate i 0 ++ drop i b₀ → b ≡ replicate (length b₀) 0
-clear_done b₀ b i h l g inv =
-    let e : i ≡ length b₀ = omega arith in
-    let n : length b₀ ≤ i = omega arith in
-    inv ∙ ap (λ (r : List ℕ). replicate i 0 ++ r) (drop_of_length-le b₀ n) ∙ append-nil (replicate i 0) ∙ ap (λ (x : ℕ). replicate x 0) e
-
--- ---- a loop that stores the bytes p from place at on
-write_paste : (t p : List ℕ) (at j : ℕ) → j ≤ length p → at + j ≤ length t → write t at (take j p) ≡ paste t at p j
-write_paste t p at j h g =
-    let l : length (take j p) ≡ j = length-take-le j p h in
-    write_mid (take j p) t at (omega arith) ∙ ap (λ (k : ℕ). take at t ++ take j p ++ drop (at + k) t) l
-
-pub copy_none : (t p : List ℕ) (at : ℕ) → t ≡ write t at (take 0 p)
-copy_none t p at = sym (write-none t at)
-
-pub copy_more : (t₀ t p : List ℕ) (at j : ℕ) → j < length p → at + length p ≤ length t₀ → t ≡ write t₀ at (take j p) → set t (at + j) (byte p j) ≡ write t₀ at (take (j + 1) p)
-copy_more t₀ t p at j h g inv =
-    rw (inv, write_paste t₀ p at j (omega arith) (omega arith), write_paste t₀ p at (j + 1) (omega arith) (omega arith), add-one j)
-    (paste-suc t₀ at p j 0 (omega arith) h)
-
-pub copy_done : (t₀ t p : List ℕ) (at j : ℕ) → length p ≤ j → t ≡ write t₀ at (take j p) → t ≡ write t₀ at p
-copy_done t₀ t p at j h inv = inv ∙ ap (write t₀ at) (take_all j p h)

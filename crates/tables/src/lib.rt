@@ -1,19 +1,24 @@
-// The session tables as bytes that the caller lends: the numbers and places of the table kind; rows, parts and marks read and written.
+// The session tables as bytes that the caller lends: the numbers and places of the table kind; parts and marks read and written.
 #![tactic(auto)]
 
 ghost use Rattle.std.specs.Prelude.{◌≡◌, ◌+◌, ◌-◌, ◌*◌, ◌≤◌, ◌<◌, length, replicate};
 ghost use Rattle.tables.specs.Bytes.{part, write};
-ghost use Rattle.tables.specs.Bits.{marked, with_mark, without_mark};
 ghost use Rattle.tables.specs.Layout.{task_row, finish_row, book_row, local_row, slot_row};
+ghost use Rattle.tables.specs.Bits.{marked, with_mark, without_mark};
 
-// The session tables: fixed numbers, and the place of each row's first byte.
+pub use numbers::{Finish, Place, Slot};
+
+mod numbers;
+
+// The session tables, all bytes of them.
+pub type SessionTables = [u8; Tables::BYTES];
+
+// The fixed numbers of the session tables: limits, row counts, and the first row of each table.
 #[derive(Drop)]
 pub struct Tables;
 
 impl Tables {
     pub const ROW: usize = 8;
-
-    pub const ROWS: usize = 1888;
 
     pub const BYTES: usize = 15104;
 
@@ -33,6 +38,8 @@ impl Tables {
 
     pub const SLOT_ROWS: usize = 2;
 
+    pub const BOOK_BYTES: usize = Tables::ROW * Tables::BOOK_ROWS;
+
     pub const FIRST_TASK: usize = 1;
 
     pub const FIRST_FINISH: usize = 256;
@@ -42,89 +49,85 @@ impl Tables {
     pub const FIRST_LOCAL: usize = 864;
 
     pub const FIRST_SLOT: usize = 1632;
+}
 
-    // Task k.
-    pub fn task(k: usize) -> usize
-        requires { k ≤ 255 }
-        ensures { result ≡ 8 * task_row k }
+// The bytes of row 0, of a store book and of a local book: each by itself, or the first of its row or rows.
+impl Tables {
+    pub const SESSION_PLACES: usize = 0;
+
+    pub const DEAD_MASK: usize = 1;
+
+    pub const TASKS_MADE: usize = 2;
+
+    pub const FINISHES_MADE: usize = 3;
+
+    pub const PRESENT: usize = 0;
+
+    pub const PARENT: usize = 1;
+
+    pub const ADOPT_DUE: usize = 2;
+
+    pub const ADOPTED: usize = 3;
+
+    pub const GHOSTS: usize = 4;
+
+    pub const LIVE: usize = 8;
+
+    pub const SENT: usize = 72;
+
+    pub const ASKED: usize = 136;
+
+    pub const LOCAL_LIVE: usize = 16;
+
+    pub const DENY_MASK: usize = 17;
+}
+
+// Where the row or the rows begin. Of any task or finish number that is a byte, the row is inside the tables.
+impl Tables {
+    // The row of task k.
+    pub fn task(k: u8) -> usize
+        ensures { (result ≡ 8 * task_row k) × (result + 8 ≤ 2048) }
     {
-        Tables::ROW * k
+        Tables::ROW * usize::from(k)
     }
 
-    // Finish f.
-    pub fn finish(f: usize) -> usize
-        requires { (1 ≤ f) × (f ≤ 32) }
-        ensures { result ≡ 8 * finish_row f }
+    // The row of finish f.
+    pub fn finish(f: u8) -> usize
+        ensures { (result ≡ 8 * finish_row f) × (result + 8 ≤ 4088) }
     {
-        Tables::ROW * (Tables::FIRST_FINISH + (f - 1))
+        Tables::ROW * (Tables::TASKS + usize::from(f))
     }
 
-    // The store book of finish f.
-    pub fn book(f: usize) -> usize
-        requires { (1 ≤ f) × (f ≤ 32) }
-        ensures { result ≡ 8 * book_row f }
+    // The store book of f.
+    pub fn book(f: Finish) -> usize
+        ensures { (result ≡ 8 * book_row f) × (result + 144 ≤ 6912) }
     {
-        Tables::ROW * (Tables::FIRST_BOOK + Tables::BOOK_ROWS * (f - 1))
+        Tables::ROW * (Tables::FIRST_BOOK + Tables::BOOK_ROWS * usize::from(f.number() - 1))
     }
 
-    // The local book of finish f at place p.
-    pub fn local(f: usize, p: usize) -> usize
-        requires { ((1 ≤ f) × (f ≤ 32)) × (p < 8) }
-        ensures { result ≡ 8 * local_row f p }
+    // The local book of f at p.
+    pub fn local(f: Finish, p: Place) -> usize
+        ensures { (result ≡ 8 * local_row f p) × (result + 24 ≤ 13056) }
     {
-        Tables::ROW * (Tables::FIRST_LOCAL + Tables::LOCAL_ROWS * (Tables::PLACES * (f - 1) + p))
+        let books = Tables::PLACES * usize::from(f.number() - 1) + p.index();
+        Tables::ROW * (Tables::FIRST_LOCAL + Tables::LOCAL_ROWS * books)
     }
 
     // Slot s.
-    pub fn slot(s: usize) -> usize
-        requires { s < 128 }
-        ensures { result ≡ 8 * slot_row s }
+    pub fn slot(s: Slot) -> usize
+        ensures { (result ≡ 8 * slot_row s) × (result + 16 ≤ 15104) }
     {
-        Tables::ROW * (Tables::FIRST_SLOT + Tables::SLOT_ROWS * s)
+        Tables::ROW * (Tables::FIRST_SLOT + Tables::SLOT_ROWS * usize::from(s.number()))
     }
 }
 
-// A byte as a number that counts and indexes.
-pub fn wide(x: u8) -> usize
-    ensures { (result ≡ x) × (result < 256) }
+// The N bytes from place `at` on, still lent.
+pub fn part<const N: usize>(t: &[u8], at: usize) -> &[u8; N]
+    requires { at + N ≤ length t.now }
+    ensures { result.now ≡ part t.now at N }
 {
-    x as usize
-}
-
-// x less y, and not below 0.
-pub fn less(x: u8, y: u8) -> u8
-    ensures { result ≡ x - y }
-{
-    if x < y {
-        return 0;
-    }
-    x - y
-}
-
-// The eight bytes from place `at` on, by value.
-pub fn row_of(t: &[u8], at: usize) -> [u8; 8]
-    requires { at + 8 ≤ length t.now }
-    ensures { result ≡ part t.now at 8 }
-{
-    [
-        t[at],
-        t[at + 1],
-        t[at + 2],
-        t[at + 3],
-        t[at + 4],
-        t[at + 5],
-        t[at + 6],
-        t[at + 7],
-    ]
-}
-
-// The n bytes from place a on, still lent.
-pub fn part_of(t: &[u8], a: usize, n: usize) -> &[u8]
-    requires { a + n ≤ length t.now }
-    ensures { (result.now ≡ part t.now a n) × (length result.now ≡ n) }
-{
-    let e = a + n;
-    &t[a..e]
+    let e = at + N;
+    t[at..e].try_into().unwrap()
 }
 
 // Writes the bytes p from place `at` on.
@@ -132,30 +135,8 @@ pub fn put_part(t: &mut [u8], at: usize, p: &[u8])
     requires { at + length p.now ≤ length t.old }
     ensures { t.new ≡ write t.old at p.now }
 {
-    let mut j: usize = 0;
-    while j < p.len() {
-        t[at + j] = p[j];
-        j += 1;
-    }
-}
-
-// Writes a whole row at place `at`.
-pub fn put_row(t: &mut [u8], at: usize, row: [u8; 8])
-    requires { at + 8 ≤ length t.old }
-    ensures { t.new ≡ write t.old at row }
-{
-    put_part(t, at, &row);
-}
-
-// Sets every byte to 0.
-pub fn clear(b: &mut [u8])
-    ensures { b.new ≡ replicate (length b.old) 0 }
-{
-    let mut i: usize = 0;
-    while i < b.len() {
-        b[i] = 0;
-        i += 1;
-    }
+    let e = at + p.len();
+    t[at..e].copy_from_slice(p);
 }
 
 // Sets the n bytes from place a on to 0.
@@ -164,17 +145,14 @@ pub fn clear_part(t: &mut [u8], a: usize, n: usize)
     ensures { t.new ≡ write t.old a (replicate n 0) }
 {
     let e = a + n;
-    clear(&mut t[a..e]);
+    t[a..e].fill(0);
 }
 
 // Mark j of a byte.
 pub fn is_marked(m: u8, j: u8) -> bool
     ensures { result ≡ marked m j }
 {
-    if 8 <= j {
-        return false;
-    }
-    (m >> j) % 2 == 1
+    j < 8 && (m >> j) % 2 == 1
 }
 
 // The byte with mark k.

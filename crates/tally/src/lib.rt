@@ -2,9 +2,9 @@
 #![tactic(auto)]
 
 ghost use Rattle.std.specs.Prelude.{◌≡◌};
-ghost use Rattle.tally.specs.Tally.{next, noted};
+ghost use Rattle.tally.specs.Tally.{noted};
 
-#[derive(Clone, Copy)]
+#[derive(Clone, Copy, Debug, Default)]
 pub struct Tally {
     pub steps: u32,
     pub kills: u32,
@@ -12,45 +12,26 @@ pub struct Tally {
     pub zeros: u32,
 }
 
-// A count, one higher where `more` says so.
-fn next_of(x: u32, more: bool) -> u32
-    ensures { result ≡ next x more }
-{
-    if more {
-        if x == 4294967295 {
-            return x;
+impl Tally {
+    // Notes one step more. A count at its top stays there.
+    pub fn note(&mut self, kill: bool, answer: u32)
+        ensures { self.new ≡ noted self.old kill answer }
+    {
+        *self = self.noted(kill, answer);
+    }
+
+    // The tally after one step more.
+    #[tactic(auto, unfolding(crate::specs::Tally::noted, crate::specs::Tally::next))]
+    pub fn noted(self, kill: bool, answer: u32) -> Tally
+        ensures { result ≡ noted self kill answer }
+    {
+        let steps = self.steps.saturating_add(1);
+        let kills = self.kills.saturating_add(u32::from(kill));
+        let zeros = self.zeros.saturating_add(u32::from(answer == 0));
+        Tally {
+            steps,
+            kills,
+            zeros,
         }
-        return x + 1;
     }
-    x
-}
-
-// The tally after one step more, as a value.
-fn tallied(t: Tally, kill: bool, answer: u32) -> Tally
-    ensures { result ≡ noted t kill answer }
-{
-    let steps = next_of(t.steps, true);
-    let kills = next_of(t.kills, kill);
-    let zeros = next_of(t.zeros, answer == 0);
-    Tally {
-        steps: steps,
-        kills: kills,
-        zeros: zeros,
-    }
-}
-
-// Notes one step more in the tally that is lent.
-pub fn note(t: &mut Tally, kill: bool, answer: u32)
-    ensures { t.new ≡ noted t.old kill answer }
-{
-    *t = tallied(*t, kill, answer);
-}
-
-// Notes one step more, for a caller that holds the tally by value.
-pub fn counted(t: Tally, kill: bool, answer: u32) -> Tally
-    ensures { result ≡ noted t kill answer }
-{
-    let mut u = t;
-    note(&mut u, kill, answer);
-    u
 }

@@ -1,4 +1,5 @@
 pub mod Choice
-pub mod Taken
+pub mod First
 pub mod Records
+pub mod Taken
 pub mod Order

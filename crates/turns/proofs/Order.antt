@@ -2,102 +2,119 @@
 use mathlib.Core.Path.{◌≡◌, refl, sym, ap, ◌∙◌}
 use mathlib.Core.Bool.{Bool, true, false, cond}
 use mathlib.Core.List.{List, [], ◌∷◌}
-use Prim.Native.Nat.{ℕ, ◌+◌, ◌*◌, ◌%◌, ◌≤◌, ◌<◌}
-use native.Mathlib.Omega.{arith}
-use borrow.Author.Tests.{eq-eqb, ne_eqb, le-leb, lt-leb}
-use lib.Dec.{eqb}
+use Prim.Native.Nat.{ℕ, ◌+◌, ◌%◌}
+use borrow.Author.Tests.{eq-eqb, ne_eqb}
+use lib.Dec.{eqb, leb, ltb}
 use Rattle.tables.specs.Walks.{every}
-use Rattle.tables.proofs.Tests.{last}
-use Rattle.rules.specs.Fields.{tasks_made, finishes_made, task_at}
 use Rattle.rules.specs.Refusals.{answer}
+use Rattle.std.proofs.Common.{None, Some}
+use Rattle.rules.specs.Step.{after}
+use Rattle.rules.specs.Fields.{tasks_made, task_at}
+use Rattle.fields.specs.Numbers.{given}
+use Rattle.acts.specs.Acts.{spawns_more, next_act, lowest_running, running_task, act_of}
 use Rattle.plan.specs.declared.Plan.{Plan}
 use Rattle.turns.specs.declared.Played.{Played}
-use Rattle.turns.specs.Choice.{taken_or}
-use Rattle.acts.specs.Acts.{spawns_more, next_act, lowest_running, act_of}
-use Rattle.turns.specs.Turn.{kill_record, kill_due, repair_or}
-use Rattle.turns.specs.Numbered.{records_of}
-use Rattle.turns.specs.Played.{played_on, no_step}
-use Rattle.turns.proofs.Choice.{Choosing, choose_if, choose_then, refused_keeps, Plays, no_play}
-use Rattle.turns.proofs.Taken.{else_chooses}
+use Rattle.turns.specs.declared.Searched.{Searched}
+use Rattle.turns.specs.Choice.{first_taken, taken_or}
+use Rattle.turns.specs.Turn.{kill_record, kill_reached, kill_due, repair_or}
+use Rattle.turns.specs.Numbered.{records_of, count_of}
+use Rattle.turns.specs.Played.{played_on, Plays}
+use Rattle.turns.proofs.Choice.{Choosing, choose_if, choose_then, refused_keeps, plays_none, plays_some}
 use Rattle.turns.proofs.Records.{not_none}
 
 -- ---- the lowest of a kind
-pub kind_chooses : (kind : ℕ) (t : List ℕ) (n : ℕ) → Choosing (taken_or t (records_of kind) n)
-kind_chooses kind t n = else_chooses t (records_of kind) n (not_none kind)
+abbrev pub lowest_of : Searched → List ℕ → List ℕ → List ℕ
+lowest_of kind t = taken_or t (records_of kind) (count_of kind t)
 
--- repair, with its kinds by number
-pub repair_is : (t : List ℕ) (n : ℕ) → n ≡ finishes_made t → (o : List ℕ) → repair_or t o ≡ taken_or t (records_of 6) n (taken_or t (records_of 7) (8 * n) (taken_or t (records_of 8) (64 * n) o))
-unfolding repair_or records_of
-repair_is t n e o = rw e
+pub kind_chooses : (kind : Searched) (t : List ℕ) → Choosing (lowest_of kind t)
+unfolding taken_or
+kind_chooses kind t =
+    let i = first_taken t (records_of kind) (count_of kind t) in
+    choose_if (ltb i (count_of kind t)) (records_of kind i) (not_none kind i)
 
 pub repair_chooses : (t : List ℕ) → Choosing (repair_or t)
-unfolding repair_or records_of
+unfolding repair_or
 repair_chooses t =
-    let n = finishes_made t in
-    choose_then (taken_or t (records_of 6) n) _ (kind_chooses 6 t n) (choose_then (taken_or t (records_of 7) (8 * n)) _ (kind_chooses 7 t (8 * n)) (kind_chooses 8 t (64 * n)))
+    choose_then (lowest_of Searched.Adopt t) _ (kind_chooses Searched.Adopt t)
+    (choose_then (lowest_of Searched.Cancel t) _ (kind_chooses Searched.Cancel t) (kind_chooses Searched.Ask t))
 
 -- ---- the kill
-pub kill_chooses : (p : Plan) (n : ℕ) (t : List ℕ) → Choosing (cond (kill_due p n t) (kill_record p))
+kill_some : (p : Plan) → kill_record p ≡ [] → ⊥
 unfolding kill_record
-kill_chooses p n t = choose_if (kill_due p n t) (kill_record p) (λ e. omega arith)
+kill_some p e = cc
+
+pub kill_chooses : (p : Plan) (n : ℕ) (t : List ℕ) → Choosing (cond (kill_due p n t) (kill_record p))
+kill_chooses p n t = choose_if (kill_due p n t) (kill_record p) (kill_some p)
 
 module _ (p : Plan) (n : ℕ) (t : List ℕ) where
   abbrev kill : List ℕ
   kill = cond (kill_due p n t) (kill_record p) []
 
-  not_due : (x : Played) (u : List ℕ) → kill_due p n t ≡ false → u ≡ t → x ≡ no_step → Plays t kill x u
-  not_due x u e same none = rw e (no_play t u x same none)
+  -- it is due where it is reached and taken
+  due : kill_due p n t ≡ cond (kill_reached p n) (eqb (answer t (kill_record p)) 0) false
+  unfolding kill_due kill_reached every
+  due = go (leb 1 p.killstep) (leb p.killstep n) (leb 1 p.victim) (eqb (answer t (kill_record p)) 0)
+    where
+      go : (a b c d : Bool) → cond a (cond b (cond c (cond d true false) false) false) false ≡ cond (cond a (cond b (cond c true false) false) false) d false
+      go true true true true = refl
+      go true true true false = refl
+      go true true false d = refl
+      go true false c d = refl
+      go false b c d = refl
 
-  pub kill-none : (x : Played) → x ≡ no_step → p.killstep < 1 → Plays t kill x t
-  unfolding kill_due every
-  kill-none x none h = not_due x t (rw (lt-leb 1 p.killstep h) refl) refl none
+  pub kill_not : (v : Bool) → v ≡ kill_reached p n → v ≡ false → Plays t kill None t
+  kill_not v e z =
+      let q : kill_reached p n ≡ false = sym e ∙ z in
+      plays_none t kill t (rw (due, q)) refl
 
-  module _ (some : 1 ≤ p.killstep) where
-    pub kill_early : (x : Played) → x ≡ no_step → n < p.killstep → Plays t kill x t
-    unfolding kill_due every
-    kill_early x none h = not_due x t (rw (le-leb 1 p.killstep some, lt-leb p.killstep n h) refl) refl none
+  -- it is tried
+  module _ (v : Bool) (e : v ≡ kill_reached p n) (reached : v ≡ true) (r : List ℕ) (made : r ≡ 5 ∷ p.victim ∷ 0 ∷ 0 ∷ [])
+      (y : Played) (u : List ℕ) (is : y ≡ played_on t r) (gives : u ≡ after t r) where
+    tried : kill_due p n t ≡ eqb (answer t (kill_record p)) 0
+    tried = let q : kill_reached p n ≡ true = sym e ∙ reached in rw (due, q)
 
-    module _ (h : p.killstep ≤ n) where
-      pub kill_spared : (x : Played) → x ≡ no_step → p.victim < 1 → Plays t kill x t
-      unfolding kill_due every
-      kill_spared x none v = not_due x t (rw (le-leb 1 p.killstep some, le-leb p.killstep n h, lt-leb 1 p.victim v) refl) refl none
+    played_kill : y ≡ played_on t (kill_record p)
+    unfolding kill_record
+    played_kill = rw (← made) is
 
-      -- it is tried
-      module _ (v : 1 ≤ p.victim) (y : Played) (u : List ℕ) (plays : Plays t (5 ∷ p.victim ∷ 0 ∷ 0 ∷ []) y u) where
-        kill-answer : y.answer ≡ answer t (kill_record p)
-        unfolding played_on kill_record
-        kill-answer = ap (λ (z : Played). z.answer) plays.0
+    after_kill : u ≡ after t (kill_record p)
+    unfolding kill_record
+    after_kill = rw (← made) gives
 
-        tried : kill_due p n t ≡ eqb (answer t (kill_record p)) 0
-        unfolding kill_due every
-        tried = rw (le-leb 1 p.killstep some, le-leb p.killstep n h, le-leb 1 p.victim v) (sym (last _ _ refl))
+    kill-answer : y.answer ≡ answer t (kill_record p)
+    unfolding played_on
+    kill-answer = ap (λ (z : Played). z.answer) played_kill
 
-        pub kill-refused : (x : Played) → x ≡ no_step → (y.answer ≡ 0 → ⊥) → Plays t kill x u
-        unfolding kill_record
-        kill-refused x none z =
-            let no : answer t (kill_record p) ≡ 0 → ⊥ = λ e. z (kill-answer ∙ e) in
-            not_due x u (tried ∙ ne_eqb (answer t (kill_record p)) 0 no) (plays.1 ∙ refused_keeps t (kill_record p) no) none
+    pub kill-refused : (y.answer ≡ 0 → ⊥) → Plays t kill None u
+    kill-refused z =
+        let no : answer t (kill_record p) ≡ 0 → ⊥ = λ q. z (kill-answer ∙ q) in
+        plays_none t kill u (rw (tried, ne_eqb (answer t (kill_record p)) 0 no)) (after_kill ∙ refused_keeps t (kill_record p) no)
 
-        pub kill-taken : y.answer ≡ 0 → Plays t kill y u
-        unfolding kill_record
-        kill-taken z = rw (tried ∙ eq-eqb (answer t (kill_record p)) 0 (sym kill-answer ∙ z)) plays
+    pub kill-taken : y.answer ≡ 0 → Plays t kill (Some y) u
+    kill-taken z = rw (tried ∙ eq-eqb (answer t (kill_record p)) 0 (sym kill-answer ∙ z)) (plays_some t (kill_record p) y u (kill_some p) played_kill after_kill)
 
 -- ---- the lowest running task's next act
-module _ (p : Plan) (t : List ℕ) (x : Played) (u : List ℕ) where
-  module _ (k : ℕ) (v : Bool) (e : v ≡ spawns_more p t k) where
-    pub act_spawns : (at to : ℕ) → v ≡ true → at ≡ task_at t k → to ≡ (at + 1) % p.places → Plays t (1 ∷ k ∷ to ∷ 0 ∷ []) x u → Plays t (next_act p t k) x u
-    unfolding next_act
-    act_spawns at to h place next plays = rw (sym e ∙ h, ← place, ← next) plays
+act_some : (p : Plan) (t : List ℕ) (k : ℕ) → next_act p t k ≡ [] → ⊥
+unfolding next_act
+act_some p t k = go (spawns_more p t k)
+  where
+    go : (b : Bool) → cond b (1 ∷ k ∷ (task_at t k + 1) % p.places ∷ 0 ∷ []) (3 ∷ k ∷ 0 ∷ 0 ∷ []) ≡ [] → ⊥
+    go true e = cc
+    go false e = cc
 
-    pub act_ends : v ≡ false → Plays t (3 ∷ k ∷ 0 ∷ 0 ∷ []) x u → Plays t (next_act p t k) x u
-    unfolding next_act
-    act_ends h plays = rw (sym e ∙ h) plays
+module _ (p : Plan) (t : List ℕ) where
+  pub act_none : None ≡ running_task t → Plays t (act_of p t) None t
+  unfolding running_task act_of
+  act_none e = go (leb (lowest_running t) (tasks_made t)) e
+    where
+      go : (b : Bool) → None ≡ given b (lowest_running t) → Plays t (cond b (next_act p t (lowest_running t)) []) None t
+      go true e = cc
+      go false e = plays_none t [] t refl refl
 
-  module _ (k n : ℕ) (lowest : k ≡ lowest_running t) (made : n ≡ tasks_made t) where
-    pub act-none : n < k → u ≡ t → x ≡ no_step → Plays t (act_of p t) x u
-    unfolding act_of
-    act-none h same none = rw (lt-leb (lowest_running t) (tasks_made t) (omega arith)) (no_play t u x same none)
-
-    pub act_some : k ≤ n → Plays t (next_act p t k) x u → Plays t (act_of p t) x u
-    unfolding act_of
-    act_some h plays = rw (le-leb (lowest_running t) (tasks_made t) (omega arith), ← lowest) plays
+  pub act_plays : (k : ℕ) (r : List ℕ) (y : Played) (u : List ℕ) → Some k ≡ running_task t → r ≡ next_act p t k → y ≡ played_on t r → u ≡ after t r → Plays t (act_of p t) (Some y) u
+  unfolding running_task act_of
+  act_plays k r y u e made is gives = go (leb (lowest_running t) (tasks_made t)) e
+    where
+      go : (b : Bool) → Some k ≡ given b (lowest_running t) → Plays t (cond b (next_act p t (lowest_running t)) []) (Some y) u
+      go true e = let q : k ≡ lowest_running t = cc in rw (← q, ← made) (plays_some t r y u (λ z. act_some p t k (sym made ∙ z)) is gives)
+      go false e = cc

@@ -34,6 +34,10 @@ kill_record p = 5 ∷ p.victim ∷ 0 ∷ 0 ∷ []
 unfoldable pub kill_due : Plan → ℕ → List ℕ → Bool
 kill_due p n t = every (leb 1 p.killstep ∷ leb p.killstep n ∷ leb 1 p.victim ∷ eqb (answer t (kill_record p)) 0 ∷ [])
 
+-- the same, before the kill is tried
+unfoldable pub kill_reached : Plan → ℕ → Bool
+kill_reached p n = every (leb 1 p.killstep ∷ leb p.killstep n ∷ leb 1 p.victim ∷ [])
+
 -- the lowest adopt, cancel or ask that is taken
 unfoldable pub repair_or : List ℕ → List ℕ → List ℕ
 repair_or t other =

@@ -2,165 +2,173 @@
 // record leaves every byte: a search plays one record after the other until one is taken.
 #![tactic(auto)]
 
-ghost use Rattle.std.specs.Prelude.{cond, [], ◌≡◌, ◌≤◌, ◌<◌};
-ghost use Rattle.tables.specs.Layout.{Whole};
+ghost use Rattle.std.specs.Prelude.{cond, [], ◌∷◌, ◌≡◌, ◌≤◌, ◌<◌};
 ghost use Rattle.rules.specs.Step.{after};
 ghost use Rattle.turns.specs.Choice.{taken_or};
 ghost use Rattle.acts.specs.Acts.{next_act, act_of};
-ghost use Rattle.turns.specs.Turn.{Playable, kill_record, kill_due, repair_or, turn_record};
-ghost use Rattle.turns.specs.Numbered.{records_of, most_of};
-ghost use Rattle.turns.specs.Played.{played_on, no_step};
+ghost use Rattle.turns.specs.Turn.{Playable, kill_record, kill_reached, kill_due, repair_or, turn_record};
+ghost use Rattle.turns.specs.Numbered.{records_of, count_of, most_of};
+ghost use Rattle.turns.specs.Played.{played_on, Plays};
 
+use actions::Action;
+use fields::TaskField;
 use plan::Plan;
-use tables::wide;
+use tables::{SessionTables, Slot, Tables};
 
-// A record as it was played, and its answer; kind 0: no step.
-#[derive(Drop)]
+// A record as it was played, and its answer.
+#[derive(Clone, Copy, Debug, Drop)]
 pub struct Played {
-    pub kind: u8,
-    pub a: u8,
-    pub b: u8,
-    pub c: u8,
+    pub record: [u8; 4],
     pub answer: u32,
 }
 
+// The kinds of record that a turn searches.
+#[derive(Clone, Copy)]
+enum Searched {
+    Deliver,
+    Adopt,
+    Cancel,
+    Ask,
+}
+
+impl Searched {
+    // How many records of the kind a turn tries.
+    fn count(self, t: &SessionTables) -> usize
+        ensures { (result ≡ count_of self t.now) × (result ≤ most_of self) }
+    {
+        let finishes = usize::from(t[Tables::FINISHES_MADE]);
+        match self {
+            Searched::Deliver => usize::from(Slot::COUNT),
+            Searched::Adopt => finishes,
+            Searched::Cancel => 8 * finishes,
+            Searched::Ask => 64 * finishes,
+        }
+    }
+
+    // Record i of the kind, in the order of their bytes.
+    #[tactic(auto, unfolding(crate::specs::Turn::deliver_record, crate::specs::Turn::adopt_record, crate::specs::Turn::cancel_record, crate::specs::Turn::ask_record))]
+    fn record(self, i: usize) -> [u8; 4]
+        requires { i < most_of self }
+        ensures { result ≡ records_of self i }
+    {
+        match self {
+            Searched::Deliver => Action::Deliver { slot: i as u8 },
+            Searched::Adopt => Action::Adopt {
+                finish: (1 + i) as u8,
+            },
+            Searched::Cancel => Action::Cancel {
+                finish: (1 + i / 8) as u8,
+                dead_place: (i % 8) as u8,
+            },
+            Searched::Ask => Action::Ask {
+                finish: (1 + i / 64) as u8,
+                dead_place: (i / 8 % 8) as u8,
+                live_place: (i % 8) as u8,
+            },
+        }
+        .into()
+    }
+}
+
 // Plays a record.
+#[tactic(auto, unfolding(crate::specs::Played::played_on))]
 pub fn play(t: &mut [u8], bytes: [u8; 4]) -> Played
-    ensures { (result ≡ played_on t.old bytes) × (t.new ≡ after t.old bytes) }
+    ensures played { result ≡ played_on t.old bytes }
+    ensures tables { t.new ≡ after t.old bytes }
 {
     let answer = finish::finish_step(t, &bytes);
     Played {
-        kind: bytes[0],
-        a: bytes[1],
-        b: bytes[2],
-        c: bytes[3],
-        answer: answer,
+        record: bytes,
+        answer,
     }
 }
 
-// No step: the empty record, which any tables refuse.
-fn no_step() -> Played
-    ensures { result ≡ no_step }
+// The lowest record of a kind that is taken.
+fn lowest_taken(t: &mut SessionTables, kind: Searched) -> Option<Played>
+    ensures { Plays t.old (taken_or t.old (records_of kind) (count_of kind t.old) []) result t.new }
 {
-    Played {
-        kind: 0,
-        a: 0,
-        b: 0,
-        c: 0,
-        answer: 7,
-    }
-}
-
-// Record i of a kind that a turn searches: deliver, adopt, cancel, or ask.
-fn numbered(kind: u8, i: usize) -> [u8; 4]
-    requires { i < most_of kind }
-    ensures { result ≡ records_of kind i }
-{
-    match kind {
-        4 => [4, i as u8, 0, 0],
-        6 => [6, (1 + i) as u8, 0, 0],
-        7 => [7, (1 + i / 8) as u8, (i % 8) as u8, 0],
-        _ => [8, (1 + i / 64) as u8, (i / 8 % 8) as u8, (i % 8) as u8],
-    }
-}
-
-// The lowest of n records of a kind that is taken.
-fn lowest_taken(t: &mut [u8], kind: u8, n: usize) -> Played
-    requires { n ≤ most_of kind }
-    ensures { (result ≡ played_on t.old (taken_or t.old (records_of kind) n [])) × (t.new ≡ after t.old (taken_or t.old (records_of kind) n [])) }
-{
-    let mut i: usize = 0;
-    while i < n {
-        let tried = play(t, numbered(kind, i));
+    for i in 0..kind.count(t) {
+        let tried = play(t, kind.record(i));
         if tried.answer == 0 {
-            return tried;
+            return Some(tried);
         }
-        i += 1;
     }
-    no_step()
+    None
 }
 
 // The lowest adopt, cancel or ask that is taken.
-fn repair(t: &mut [u8]) -> Played
-    requires { Whole t.old }
-    ensures { (result ≡ played_on t.old (repair_or t.old [])) × (t.new ≡ after t.old (repair_or t.old [])) }
+fn repair(t: &mut SessionTables) -> Option<Played>
+    ensures { Plays t.old (repair_or t.old []) result t.new }
 {
-    let finishes = wide(t[3]);
-    let adopt = lowest_taken(t, 6, finishes);
-    if adopt.kind != 0 {
-        return adopt;
+    if let Some(adopt) = lowest_taken(t, Searched::Adopt) {
+        return Some(adopt);
     }
-    let cancel = lowest_taken(t, 7, 8 * finishes);
-    if cancel.kind != 0 {
-        return cancel;
+    if let Some(cancel) = lowest_taken(t, Searched::Cancel) {
+        return Some(cancel);
     }
-    lowest_taken(t, 8, 64 * finishes)
+    lowest_taken(t, Searched::Ask)
+}
+
+// A kill is planned, of a place that isn't 0, and the steps have reached it.
+#[tactic(auto, unfolding(crate::specs::Turn::kill_reached, tables::specs::Walks::every))]
+fn kill_reached(p: Plan, steps: u32) -> bool
+    ensures { result ≡ kill_reached p steps }
+{
+    1 <= p.killstep && p.killstep <= steps && 1 <= p.victim
 }
 
 // The kill, where it is due.
-fn due_kill(t: &mut [u8], p: Plan, steps: u32) -> Played
+fn due_kill(t: &mut SessionTables, p: Plan, steps: u32) -> Option<Played>
     requires { Playable p }
-    ensures { (result ≡ played_on t.old (cond (kill_due p steps t.old) (kill_record p) [])) × (t.new ≡ after t.old (cond (kill_due p steps t.old) (kill_record p) [])) }
+    ensures { Plays t.old (cond (kill_due p steps t.old) (kill_record p) []) result t.new }
 {
-    if p.killstep < 1 {
-        return no_step();
+    if !kill_reached(p, steps) {
+        return None;
     }
-    if steps < p.killstep {
-        return no_step();
+    let victim = p.victim as u8;
+    let kill = play(t, Action::Kill { place: victim }.into());
+    if kill.answer != 0 {
+        return None;
     }
-    if p.victim < 1 {
-        return no_step();
-    }
-    let tried = play(t, [5, p.victim as u8, 0, 0]);
-    if tried.answer != 0 {
-        return no_step();
-    }
-    tried
+    Some(kill)
 }
 
-// Task k's next act.
-fn task_act(t: &mut [u8], p: Plan, k: u8) -> Played
-    requires whole { Whole t.old }
-    requires playable { Playable p }
-    ensures { (result ≡ played_on t.old (next_act p t.old k)) × (t.new ≡ after t.old (next_act p t.old k)) }
+// Task k's next act, as a record.
+#[tactic(auto, using(tables::proofs::Tests::was_true, tables::proofs::Tests::was_false), unfolding(acts::specs::Acts::next_act))]
+fn next_act(t: &SessionTables, p: Plan, k: u8) -> [u8; 4]
+    requires { Playable p }
+    ensures { result ≡ next_act p t.now k }
 {
     if acts::spawns_more(t, p, k) {
-        let to = acts::next_place(fields::task_byte(t, k, 1), p.places);
-        return play(t, [1, k, to, 0]);
+        let to = acts::next_place(fields::task_byte(t, k, TaskField::At), p.places);
+        return Action::Spawn { task: k, place: to }.into();
     }
-    play(t, [3, k, 0, 0])
+    Action::End { task: k }.into()
 }
 
 // The lowest running task's next act.
-fn act(t: &mut [u8], p: Plan) -> Played
-    requires whole { Whole t.old }
-    requires playable { Playable p }
-    ensures { (result ≡ played_on t.old (act_of p t.old)) × (t.new ≡ after t.old (act_of p t.old)) }
+fn act(t: &mut SessionTables, p: Plan) -> Option<Played>
+    requires { Playable p }
+    ensures { Plays t.old (act_of p t.old) result t.new }
 {
-    let k = acts::lowest_running(t);
-    if wide(t[2]) < k {
-        return no_step();
-    }
-    task_act(t, p, k as u8)
+    let k = acts::lowest_running(t)?;
+    let record = next_act(t, p, k);
+    Some(play(t, record))
 }
 
 // A turn: the kill, or a repair, or a delivery, or an act; or no step.
-pub fn turn(t: &mut [u8], p: Plan, steps: u32) -> Played
-    requires whole { Whole t.old }
-    requires playable { Playable p }
-    ensures { (result ≡ played_on t.old (turn_record p steps t.old)) × (t.new ≡ after t.old (turn_record p steps t.old)) }
+pub fn turn(t: &mut SessionTables, p: Plan, steps: u32) -> Option<Played>
+    requires { Playable p }
+    ensures { Plays t.old (turn_record p steps t.old) result t.new }
 {
-    let kill = due_kill(t, p, steps);
-    if kill.kind != 0 {
-        return kill;
+    if let Some(kill) = due_kill(t, p, steps) {
+        return Some(kill);
     }
-    let repair = repair(t);
-    if repair.kind != 0 {
-        return repair;
+    if let Some(repair) = repair(t) {
+        return Some(repair);
     }
-    let delivery = lowest_taken(t, 4, 128);
-    if delivery.kind != 0 {
-        return delivery;
+    if let Some(delivery) = lowest_taken(t, Searched::Deliver) {
+        return Some(delivery);
     }
     act(t, p)
 }

@@ -1,288 +1,156 @@
-// What refuses the deliver of a message: held (5), or a status or a count that is wanted and not found (9); tag by tag.
-#![tactic(auto)]
+// What refuses the deliver of a message: held, or a status or a count that is wanted and not found; tag by tag.
+#![tactic(auto, unfolding(crate::specs::Says::deliver_says, rules::specs::Deliver::held, rules::specs::Deliver::discarded, rules::specs::Deliver::waits_for_repair, rules::specs::Deliver::deliver_wanted, rules::specs::Deliver::fits, rules::specs::Messages::goes_to, rules::specs::Refusals::first_of, tables::specs::Walks::every, tables::specs::Walks::some_of, tables::specs::Bits::marked))]
 
-ghost use Rattle.std.specs.Prelude.{◌≡◌, ◌≤◌, ◌<◌, eqb, leb};
-ghost use Rattle.tables.specs.Layout.{Whole};
-ghost use Rattle.rules.specs.Fields.{task_maker, opener, finish_status, live, sent_count, received, local_live, may_run};
-ghost use Rattle.rules.specs.Books.{book_of};
-ghost use Rattle.rules.specs.Deliver.{lowers};
-ghost use Rattle.rules.specs.Messages.{publish, published, transit, granted, task, report, release, ghost_ended, count_dropped, dropped};
+ghost use Rattle.std.specs.Prelude.{◌≡◌, cond};
+ghost use Rattle.rules.specs.Fields.{task_maker, opener, may_run};
+ghost use Rattle.rules.specs.Messages.{publish, published, transit, granted, denied, task, report, release, ghost_ended, count_dropped, dropped};
+ghost use Rattle.answers.specs.Answers.{number_of};
 ghost use Rattle.wanted.specs.Says.{deliver_says};
 
-use tables::wide;
+use answers::Refusal;
+use fields::{FinishField, FinishStatus, TaskField, TaskStatus};
+use messages::Route;
+use tables::{Finish, Place, SessionTables};
 
-// Finish f has this status.
-fn finish_has(t: &[u8], f: u8, status: u8) -> bool
-    requires { Whole t.now }
-    ensures { result ≡ eqb (finish_status t.now f) status }
+// Refused as unwanted, where what is wanted does not hold.
+fn want(holds: bool) -> Result<(), Refusal>
+    ensures { number_of result ≡ cond holds 0 9 }
 {
-    fields::finish_byte(t, f, 3) == status
+    if holds {
+        Ok(())
+    } else {
+        Err(Refusal::Unwanted)
+    }
 }
 
 // The spawner of k may run.
-fn maker_may_run(t: &[u8], k: u8) -> bool
-    requires { Whole t.now }
+fn maker_may_run(t: &SessionTables, k: u8) -> bool
     ensures { result ≡ may_run t.now (task_maker t.now k) }
 {
-    fields::may_run(t, fields::task_byte(t, k, 5))
+    fields::may_run(t, fields::task_byte(t, k, TaskField::Maker))
 }
 
 // The opener of f may run.
-fn opener_may_run(t: &[u8], f: u8) -> bool
-    requires { Whole t.now }
+fn opener_may_run(t: &SessionTables, f: u8) -> bool
     ensures { result ≡ may_run t.now (opener t.now f) }
 {
-    fields::may_run(t, fields::finish_byte(t, f, 1))
-}
-
-// The live count of f from i at j can go up.
-fn live_room(t: &[u8], f: u8, i: u8, j: u8) -> bool
-    requires whole { Whole t.now }
-    requires in_range { ((1 ≤ f) × (f ≤ 32)) × ((i < 8) × (j < 8)) }
-    ensures { result ≡ leb (live t.now f i j) 254 }
-{
-    counts::live_at(t, f, i, j) <= 254
-}
-
-// The sent count of f from i at j can go up.
-fn sent_room(t: &[u8], f: u8, i: u8, j: u8) -> bool
-    requires whole { Whole t.now }
-    requires in_range { ((1 ≤ f) × (f ≤ 32)) × ((i < 8) × (j < 8)) }
-    ensures { result ≡ leb (sent_count t.now f i j) 254 }
-{
-    counts::sent_at(t, f, i, j) <= 254
-}
-
-// What p received of f from i can go up.
-fn received_room(t: &[u8], f: u8, p: u8, i: u8) -> bool
-    requires whole { Whole t.now }
-    requires in_range { ((1 ≤ f) × (f ≤ 32)) × ((p < 8) × (i < 8)) }
-    ensures { result ≡ leb (received t.now f p i) 254 }
-{
-    counts::received_at(t, f, p, i) <= 254
-}
-
-// The live tasks of f at p can go up.
-fn local_room(t: &[u8], f: u8, p: u8) -> bool
-    requires whole { Whole t.now }
-    requires in_range { ((1 ≤ f) × (f ≤ 32)) × (p < 8) }
-    ensures { result ≡ leb (local_live t.now f p) 254 }
-{
-    counts::local_byte(t, f, p, 16) <= 254
-}
-
-// What p received of f from i is at most n.
-fn received_within(t: &[u8], f: u8, p: u8, i: u8, n: u8) -> bool
-    requires whole { Whole t.now }
-    requires in_range { ((1 ≤ f) × (f ≤ 32)) × ((p < 8) × (i < 8)) }
-    ensures { result ≡ leb (received t.now f p i) n }
-{
-    counts::received_at(t, f, p, i) <= n
-}
-
-// The live count of f from i at j is at least n.
-fn live_covers(t: &[u8], f: u8, i: u8, j: u8, n: u8) -> bool
-    requires whole { Whole t.now }
-    requires in_range { ((1 ≤ f) × (f ≤ 32)) × ((i < 8) × (j < 8)) }
-    ensures { result ≡ leb n (live t.now f i j) }
-{
-    n <= counts::live_at(t, f, i, j)
-}
-
-// The counts lower column v of the book of f.
-fn report_fits(t: &[u8], f: u8, v: u8, cs: [u8; 8]) -> bool
-    requires whole { Whole t.now }
-    requires in_range { ((1 ≤ f) × (f ≤ 32)) × (v < 8) }
-    ensures { result ≡ lowers (book_of t.now f) v cs }
-{
-    books::book_lowers(t, wide(f), wide(v), cs)
+    fields::may_run(t, fields::finish_byte(t, f, FinishField::Opener))
 }
 
 // 1 publish.
-pub fn publish_says(t: &[u8], f: u8, k: u8) -> u8
-    requires whole { Whole t.now }
-    requires in_range { (1 ≤ f) × (f ≤ 32) }
-    ensures { result ≡ deliver_says t.now (publish f k) }
+pub fn publish_says(t: &SessionTables, f: Finish, k: u8) -> Result<(), Refusal>
+    ensures { number_of result ≡ deliver_says t.now (publish f k) }
 {
-    if fields::home_dead(t, f) {
-        return 0;
-    }
-    if finish_has(t, f, 2) {} else {
-        return 9;
-    }
-    if counts::book_absent(t, f) {} else {
-        return 9;
-    }
-    0
+    let n = f.number();
+    want(
+        fields::home_dead(t, n)
+            || fields::finish_has(t, n, FinishStatus::Publishing) && counts::book_absent(t, f),
+    )
 }
 
 // 2 published.
-pub fn published_says(t: &[u8], f: u8, k: u8) -> u8
-    requires { Whole t.now }
-    ensures { result ≡ deliver_says t.now (published f k) }
+pub fn published_says(t: &SessionTables, f: Finish, k: u8) -> Result<(), Refusal>
+    ensures { number_of result ≡ deliver_says t.now (published f k) }
 {
-    if fields::home_dead(t, f) {
-        return 9;
-    }
-    if finish_has(t, f, 2) {} else {
-        return 9;
-    }
-    if fields::has_status(t, k, 1) {} else {
-        return 9;
-    }
-    0
+    let n = f.number();
+    want(
+        !fields::home_dead(t, n)
+            && fields::finish_has(t, n, FinishStatus::Publishing)
+            && fields::has_status(t, k, TaskStatus::WaitsForPublish),
+    )
 }
 
 // 3 transit.
-pub fn transit_says(t: &[u8], f: u8, k: u8, v: u8, j: u8) -> u8
-    requires whole { Whole t.now }
-    requires in_range { ((1 ≤ f) × (f ≤ 32)) × ((v < 8) × (j < 8)) }
-    ensures { result ≡ deliver_says t.now (transit f k v j) }
+pub fn transit_says(t: &SessionTables, m: Route) -> Result<(), Refusal>
+    ensures { number_of result ≡ deliver_says t.now (transit m.finish m.task m.from m.to) }
 {
-    if fields::is_dead(t, v) {
-        return 0;
+    if fields::is_dead(t, m.from.number()) || counts::book_absent(t, m.finish) {
+        return Ok(());
     }
-    if counts::book_absent(t, f) {
-        return 0;
+    if books::in_repair(t, m.finish) {
+        return Err(Refusal::MustWait);
     }
-    if books::repairing(t, f) {
-        return 5;
-    }
-    if fields::is_dead(t, j) {
-        return 0;
-    }
-    if live_room(t, f, v, j) {} else {
-        return 9;
-    }
-    if sent_room(t, f, v, j) {} else {
-        return 9;
-    }
-    0
+    want(
+        fields::is_dead(t, m.to.number())
+            || counts::live_at(t, m.finish, m.from, m.to) <= 254
+                && counts::sent_at(t, m.finish, m.from, m.to) <= 254,
+    )
 }
 
 // 4 granted; 5 denied wants the same.
-pub fn granted_says(t: &[u8], f: u8, k: u8, v: u8, j: u8) -> u8
-    requires { Whole t.now }
-    ensures { result ≡ deliver_says t.now (granted f k v j) }
+pub fn granted_says(t: &SessionTables, m: Route) -> Result<(), Refusal>
+    ensures granted { number_of result ≡ deliver_says t.now (granted m.finish m.task m.from m.to) }
+    ensures denied { number_of result ≡ deliver_says t.now (denied m.finish m.task m.from m.to) }
 {
-    if fields::is_dead(t, v) {
-        return 9;
-    }
-    if fields::has_status(t, k, 2) {} else {
-        return 9;
-    }
-    if maker_may_run(t, k) {} else {
-        return 9;
-    }
-    0
+    want(
+        !fields::is_dead(t, m.from.number())
+            && fields::has_status(t, m.task, TaskStatus::WaitsForTransit)
+            && maker_may_run(t, m.task),
+    )
 }
 
 // 6 task.
-pub fn task_says(t: &[u8], f: u8, k: u8, v: u8, j: u8) -> u8
-    requires whole { Whole t.now }
-    requires in_range { ((1 ≤ f) × (f ≤ 32)) × ((v < 8) × (j < 8)) }
-    ensures { result ≡ deliver_says t.now (task f k v j) }
+pub fn task_says(t: &SessionTables, m: Route) -> Result<(), Refusal>
+    ensures { number_of result ≡ deliver_says t.now (task m.finish m.task m.from m.to) }
 {
-    if fields::is_dead(t, j) {
-        return 9;
-    }
-    if counts::is_denied(t, f, j, v) {
-        return 0;
-    }
-    if fields::has_status(t, k, 3) {} else {
-        return 9;
-    }
-    if received_room(t, f, j, v) {} else {
-        return 9;
-    }
-    if local_room(t, f, j) {} else {
-        return 9;
-    }
-    0
+    want(!fields::is_dead(t, m.to.number()))?;
+    want(
+        counts::is_denied(t, m.finish, m.to, m.from)
+            || fields::has_status(t, m.task, TaskStatus::OnTheWire)
+                && counts::received_at(t, m.finish, m.to, m.from) <= 254
+                && counts::local_live(t, m.finish, m.to) <= 254,
+    )
 }
 
 // 7 report.
-pub fn report_says(t: &[u8], f: u8, v: u8, cs: [u8; 8]) -> u8
-    requires whole { Whole t.now }
-    requires in_range { ((1 ≤ f) × (f ≤ 32)) × (v < 8) }
-    ensures { result ≡ deliver_says t.now (report f v cs) }
+pub fn report_says(t: &SessionTables, f: Finish, v: Place, cs: [u8; 8]) -> Result<(), Refusal>
+    ensures { number_of result ≡ deliver_says t.now (report f v cs) }
 {
-    if fields::is_dead(t, v) {
-        return 0;
+    if fields::is_dead(t, v.number()) || counts::book_absent(t, f) {
+        return Ok(());
     }
-    if counts::book_absent(t, f) {
-        return 0;
+    if books::in_repair(t, f) {
+        return Err(Refusal::MustWait);
     }
-    if books::repairing(t, f) {
-        return 5;
-    }
-    if report_fits(t, f, v, cs) {} else {
-        return 9;
-    }
-    0
+    want(books::book_lowers(t, f, v, cs))
 }
 
 // 8 release.
-pub fn release_says(t: &[u8], f: u8) -> u8
-    requires { Whole t.now }
-    ensures { result ≡ deliver_says t.now (release f) }
+pub fn release_says(t: &SessionTables, f: Finish) -> Result<(), Refusal>
+    ensures { number_of result ≡ deliver_says t.now (release f) }
 {
-    if fields::home_dead(t, f) {
-        return 9;
-    }
-    if finish_has(t, f, 3) {} else {
-        return 9;
-    }
-    if opener_may_run(t, f) {} else {
-        return 9;
-    }
-    0
+    let n = f.number();
+    want(
+        !fields::home_dead(t, n)
+            && fields::finish_has(t, n, FinishStatus::WaitsForRelease)
+            && opener_may_run(t, n),
+    )
 }
 
 // 9 ghost-ended.
-pub fn ghost_ended_says(t: &[u8], f: u8, g: u8) -> u8
-    requires whole { Whole t.now }
-    requires in_range { (1 ≤ f) × (f ≤ 32) }
-    ensures { result ≡ deliver_says t.now (ghost_ended f g) }
+pub fn ghost_ended_says(t: &SessionTables, q: Finish, g: Finish) -> Result<(), Refusal>
+    ensures { number_of result ≡ deliver_says t.now (ghost_ended q g) }
 {
-    if counts::book_absent(t, f) {
-        return 0;
+    if !counts::book_absent(t, q) && books::in_repair(t, q) {
+        return Err(Refusal::MustWait);
     }
-    if books::repairing(t, f) {
-        return 5;
-    }
-    0
+    Ok(())
 }
 
 // 10 count-dropped.
-pub fn count_dropped_says(t: &[u8], f: u8, k: u8, v: u8, j: u8, n: u8) -> u8
-    requires whole { Whole t.now }
-    requires in_range { ((1 ≤ f) × (f ≤ 32)) × ((v < 8) × (j < 8)) }
-    ensures { result ≡ deliver_says t.now (count_dropped f k v j n) }
+pub fn count_dropped_says(t: &SessionTables, m: Route, n: u8) -> Result<(), Refusal>
+    ensures { number_of result ≡ deliver_says t.now (count_dropped m.finish m.task m.from m.to n) }
 {
-    if fields::is_dead(t, j) {
-        return 9;
-    }
-    if received_within(t, f, j, v, n) {} else {
-        return 9;
-    }
-    0
+    want(!fields::is_dead(t, m.to.number()) && counts::received_at(t, m.finish, m.to, m.from) <= n)
 }
 
 // 11 dropped.
-pub fn dropped_says(t: &[u8], f: u8, k: u8, v: u8, j: u8, n: u8) -> u8
-    requires whole { Whole t.now }
-    requires in_range { ((1 ≤ f) × (f ≤ 32)) × ((v < 8) × (j < 8)) }
-    ensures { result ≡ deliver_says t.now (dropped f k v j n) }
+pub fn dropped_says(t: &SessionTables, m: Route, n: u8) -> Result<(), Refusal>
+    ensures { number_of result ≡ deliver_says t.now (dropped m.finish m.task m.from m.to n) }
 {
-    if fields::is_dead(t, j) {
-        return 0;
-    }
-    if counts::book_absent(t, f) {
-        return 0;
-    }
-    if live_covers(t, f, v, j, n) {} else {
-        return 9;
-    }
-    0
+    want(
+        fields::is_dead(t, m.to.number())
+            || counts::book_absent(t, m.finish)
+            || n <= counts::live_at(t, m.finish, m.from, m.to),
+    )
 }

@@ -1,12 +1,14 @@
-use Rattle.acts.proofs.Acts.{children_none, children_more, children_done}
-use borrow.Author.Rules.{rules}
+use Rattle.std.proofs.Common.{◌∙◌, rules}
+use Rattle.std.proofs.lemmas.Iterator.Consumers.{count_from_yields_List, YieldsList-from_filter}
+use Rattle.rules.specs.Fields.{tasks_made}
+use Rattle.tables.proofs.Rows.{one_to}
+use Rattle.acts.specs.Acts.{spawner}
+use Rattle.acts.proofs.Acts.{spawned, children_counted}
 use Rattle.acts.proofs.children_of.Goals as goal
 
-pub loop-j-init : goal.loop-j-init
-loop-j-init c = (search rules, (search rules, children_none _ _))
-
-pub loop-j-preserved : goal.loop-j-preserved
-loop-j-preserved c = (search rules, (search rules, children_more _ _ _ _ _ c.child_one-c.ensures.0 c.loop-j.invariant.1.1))
-
 pub returns : goal.returns
-returns c = children_done _ _ _ _ _ c.loop-j-test.false c.loop-j.invariant.0 c.loop-j.invariant.1.1
+returns c =
+    let t = c.args.t.now in
+    let made = rw (← c.filter.ensures.source) at (one_to _ (tasks_made t) c.new.ensures.start c.new.ensures.end c.new.ensures.exhausted) in
+    count_from_yields_List _ _ c.count.ensures.ran (YieldsList-from_filter _ (spawned (spawner t) c.args.k) made c.filter.ensures.closure (λ x b q k. search rules))
+    ∙ children_counted _ _ _

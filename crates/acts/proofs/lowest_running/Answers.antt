@@ -1,15 +1,10 @@
-use Rattle.acts.proofs.Acts.{running_none, running_pass, running_stop, running_done}
-use borrow.Author.Rules.{rules}
+use Rattle.std.proofs.Common.{rules}
+use Rattle.std.proofs.lemmas.Iterator.Search.{find_from_yields_List}
+use Rattle.tables.proofs.Rows.{one_to}
+use Rattle.acts.proofs.Acts.{runs, found_running}
 use Rattle.acts.proofs.lowest_running.Goals as goal
 
-pub loop-j-init : goal.loop-j-init
-loop-j-init c = (search rules, running_none _)
-
-pub returns-then-has_status : goal.returns-then-has_status
-returns-then-has_status c = (running_stop _ _ c.wide-n.ensures.0 _ _ c.loop-j.invariant.1 _ c.loop-j-test.true c.has_status.ensures c.if-has_status.true, search rules)
-
-pub loop-j-preserved : goal.loop-j-preserved
-loop-j-preserved c = (search rules, running_pass _ _ c.wide-n.ensures.0 _ _ c.loop-j.invariant.1 _ c.loop-j-test.true c.has_status.ensures c.if-has_status.false)
-
 pub returns : goal.returns
-returns c = (running_done _ _ c.wide-n.ensures.0 _ _ c.loop-j.invariant.1 c.loop-j-test.false c.loop-j.invariant.0.0, search rules)
+returns c =
+    let made = one_to _ _ c.new.ensures.start c.new.ensures.end c.new.ensures.exhausted in
+    found_running _ _ (find_from_yields_List (runs c.args.t.now) _ _ c.find.result c.find.ensures.ran made (λ x b q k. search rules))

@@ -1,8 +1,8 @@
-use native.Mathlib.Nat.{add-zero}
-use Rattle.rules.specs.Books.{with_book}
-use Rattle.rules.specs.Closing.{without_book}
+use Rattle.std.proofs.Common.{◌∙◌}
+use Rattle.rules.specs.Closing as Closing
+use Rattle.books.proofs.Places.{book_put}
 use Rattle.books.proofs.clear_book.Goals as goal
 
 pub returns : goal.returns
-unfolding without_book with_book
-returns c = simp add-zero (rw c.book.ensures at c.clear_part.ensures)
+unfolding Closing.without_book
+returns c = c.clear_part.ensures ∙ book_put _ _ _ c.book.ensures.0 _

@@ -1,9 +1,12 @@
-use mathlib.Core.Path.{sym, ap, ◌∙◌}
+use mathlib.Core.Path.{◌≡◌, refl, ap, ◌∙◌}
+use mathlib.Core.Bool.{Bool, true, false}
+use mir.Val.{bool_byte}
 use Rattle.tables.specs.Bits.{digit}
 use Rattle.finish.proofs.quiet_one.Goals as goal
 
-pub returns-then-is_quiet : goal.returns-then-is_quiet
-returns-then-is_quiet c = ap digit (sym c.if-is_quiet.true ∙ c.is_quiet.ensures)
+byte_digit : (v : Bool) → bool_byte v ≡ digit v
+byte_digit true = refl
+byte_digit false = refl
 
 pub returns : goal.returns
-returns c = ap digit (sym c.if-is_quiet.false ∙ c.is_quiet.ensures)
+returns c = c.from.ensures ∙ byte_digit _ ∙ ap digit c.is_quiet.ensures

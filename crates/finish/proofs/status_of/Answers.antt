@@ -1,21 +1,16 @@
-use mathlib.Core.Path.{refl}
-use Rattle.tables.proofs.Tests.{if_eq, if_ne, if_lt, if_ge}
+use Rattle.std.proofs.Common.{rules}
+use Rattle.tables.proofs.Tests.{tests}
 use Rattle.finish.specs.Readings.{status_of}
-use borrow.Author.Rules.{rules}
 use Rattle.finish.proofs.status_of.Goals as goal
 
-pub returns-then-finish-eq0 : goal.returns-then-finish-eq0
+pub returns-in_default : goal.returns-in_default
 unfolding status_of
-returns-then-finish-eq0 c = if_eq _ _ _ _ _ c.if-finish-eq0.true refl
+returns-in_default c = search (rules, tests) depth 20
 
-pub returns-then-finish-gt32 : goal.returns-then-finish-gt32
+pub returns-in-1-to-32 : goal.returns-in-1-to-32
 unfolding status_of
-returns-then-finish-gt32 c = search (if_ne, if_lt) depth 20
+returns-in-1-to-32 c = search (rules, tests) depth 20
 
-pub finish_byte-requires : goal.finish_byte-requires
+pub returns-in_default-2 : goal.returns-in_default-2
 unfolding status_of
-finish_byte-requires c = search rules
-
-pub returns : goal.returns
-unfolding status_of
-returns c = search (if_ne, if_ge) depth 20
+returns-in_default-2 c = search (rules, tests) depth 20

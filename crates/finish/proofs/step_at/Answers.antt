@@ -1,11 +1,14 @@
-use Rattle.finish.proofs.Entries.{record_lent, schedule_short, schedule_over, wrong_says, wrong_keeps}
+use Rattle.std.proofs.Common.{arith, ◌∙◌}
+use Rattle.finish.proofs.Entries.{short_wrong, record_front, wrong_says, wrong_keeps}
 use Rattle.finish.proofs.step_at.Goals as goal
 
-pub returns-then-schedule-lt4 : goal.returns-then-schedule-lt4
-returns-then-schedule-lt4 c = let w = schedule_short _ _ _ c.if-schedule-lt4.true in (wrong_says _ _ w, wrong_keeps _ _ w)
+pub returns-in_default : goal.returns-in_default
+returns-in_default c = let w = short_wrong _ _ _ (omega (arith, c.in_default.ensures.lookup.0)) in (c.into.ensures ∙ wrong_says _ _ w, wrong_keeps _ _ w)
 
-pub returns-then-schedule-at : goal.returns-then-schedule-at
-returns-then-schedule-at c = let w = schedule_over _ _ _ c.if-schedule-at.true in (wrong_says _ _ w, wrong_keeps _ _ w)
+pub returns-then-rest-lt-RECORD : goal.returns-then-rest-lt-RECORD
+returns-then-rest-lt-RECORD c =
+    let w = short_wrong _ c.args.schedule.now c.args.at (omega (arith, c.in-Some.ensures.lookup.0.3)) in
+    (c.into-then-rest-lt-RECORD.ensures ∙ wrong_says _ _ w, wrong_keeps _ _ w)
 
 pub returns : goal.returns
-returns c = rw (record_lent _ _) at c.finish_step.ensures
+returns c = rw (record_front c.args.t.now c.args.schedule.now c.args.at c.in-Some.rest.now c.in-Some.ensures.lookup.0.2) at c.finish_step.ensures

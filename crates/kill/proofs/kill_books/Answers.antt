@@ -1,13 +1,8 @@
-use Rattle.tables.proofs.Changes.{change_none, change_done}
-use Rattle.kill.proofs.Turns.{books_more}
+use Rattle.rules.specs.Kill.{kill_book}
+use Rattle.kill.proofs.Keeps.{book_keeps}
 use borrow.Author.Rules.{rules}
 use Rattle.kill.proofs.kill_books.Goals as goal
 
-pub loop-j-init : goal.loop-j-init
-loop-j-init c = (search rules, (search rules, search (rules, change_none)))
-
-pub loop-j-preserved : goal.loop-j-preserved
-loop-j-preserved c = (search rules, (search rules, search (rules, books_more)))
-
 pub returns : goal.returns
-returns c = search (rules, change_done)
+unfolding kill_book
+returns c = c.change_parts.ensures (kill_book c.args.p) 1 (book_keeps _) (λ u y z j h due out post. search rules)

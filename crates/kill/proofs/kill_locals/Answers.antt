@@ -1,13 +1,8 @@
-use Rattle.tables.proofs.Changes.{change_none, change_done}
-use Rattle.kill.proofs.Turns.{locals_more}
+use Rattle.rules.specs.Kill.{kill_local}
+use Rattle.kill.proofs.Keeps.{local_keeps}
 use borrow.Author.Rules.{rules}
 use Rattle.kill.proofs.kill_locals.Goals as goal
 
-pub loop-j-init : goal.loop-j-init
-loop-j-init c = (search rules, (search rules, search (rules, change_none)))
-
-pub loop-j-preserved : goal.loop-j-preserved
-loop-j-preserved c = (search rules, (search rules, search (rules, locals_more)))
-
 pub returns : goal.returns
-returns c = search (rules, change_done)
+unfolding kill_local
+returns c = c.change_parts.ensures (kill_local c.args.p) 0 (local_keeps _) (λ u y z j h due out post. search rules)

@@ -1,17 +1,12 @@
-use Rattle.answers.proofs.Joins.{is_refused, is_done}
+use Rattle.std.proofs.Common.{refl}
+use Rattle.answers.proofs.Joins.{refused_ne0}
 use Rattle.rules.specs.Step.{step}
-use Rattle.rules.specs.Sent.{sent_by}
 use Rattle.rules.proofs.Joins.{unchanged, changed}
-use Rattle.kill.proofs.Taken.{kill_range}
-use borrow.Author.Rules.{rules}
 use Rattle.kill.proofs.kill_place.Goals as goal
 
-pub returns-then-no-ne0 : goal.returns-then-no-ne0
-returns-then-no-ne0 c = (search (rules, is_refused), search (rules, unchanged))
+pub returns-in_err-q-clause-tables : goal.returns-in_err-q-clause-tables
+returns-in_err-q-clause-tables c = unchanged _ _ _ c.in_err-q.ensures.answer (refused_ne0 _)
 
-pub kill-requires : goal.kill-requires
-kill-requires c = record { whole = search rules; in_range = kill_range _ _ _ c.requires.counts c.kill_refusal-no.ensures c.if-no-ne0.false }
-
-pub returns : goal.returns
-unfolding sent_by step
-returns c = (search (rules, is_done), search (rules, changed))
+pub returns-clause-tables : goal.returns-clause-tables
+unfolding step
+returns-clause-tables c = changed _ _ _ c.in_ok-q.ensures.answer _ refl (rw c.in_ok-q.ensures.named at c.kill.ensures)

@@ -1,13 +1,10 @@
-use Rattle.tables.proofs.Changes.{change_none, change_done}
-use Rattle.kill.proofs.Turns.{slots_more}
+use mathlib.Core.Path.{◌≡◌, ◌∙◌}
+use Rattle.rules.specs.Kill.{kill_slot}
+use Rattle.kill.proofs.Keeps.{slot_keeps, slot_due}
 use borrow.Author.Rules.{rules}
 use Rattle.kill.proofs.kill_slots.Goals as goal
 
-pub loop-j-init : goal.loop-j-init
-loop-j-init c = (search rules, (search rules, search (rules, change_none)))
-
-pub loop-j-preserved : goal.loop-j-preserved
-loop-j-preserved c = (search rules, (search rules, search (rules, slots_more)))
-
 pub returns : goal.returns
-returns c = search (rules, change_done)
+returns c = c.change_parts.ensures (kill_slot c.args.t.now c.args.p) 0 (slot_keeps _ _) (λ u y z j h due out post.
+    let new : z.now ≡ kill_slot u.now c.args.p y.now 0 = search rules in
+    new ∙ slot_due _ _ _ _ _ _ c.fits-t h due out)

@@ -1,13 +1,8 @@
-use Rattle.tables.proofs.Changes.{change_none, change_done}
-use Rattle.kill.proofs.Turns.{tasks_more}
+use Rattle.rules.specs.Kill.{kill_task}
+use Rattle.kill.proofs.Keeps.{task_keeps}
 use borrow.Author.Rules.{rules}
 use Rattle.kill.proofs.kill_tasks.Goals as goal
 
-pub loop-j-init : goal.loop-j-init
-loop-j-init c = (search rules, (search rules, search (rules, change_none)))
-
-pub loop-j-preserved : goal.loop-j-preserved
-loop-j-preserved c = (search rules, (search rules, search (rules, tasks_more)))
-
 pub returns : goal.returns
-returns c = search (rules, change_done)
+unfolding kill_task
+returns c = rw (← c.from.ensures) (c.change_parts.ensures (kill_task c.args.p) 1 (task_keeps _) (λ u y z j h due out post. search rules))

@@ -1,23 +1,11 @@
+use Rattle.std.proofs.Common.{rules}
+use Rattle.std.proofs.iter.runs.Sources.{ranges}
+use lib.Dec.{leb}
+use Rattle.tables.specs.Bytes.{byte}
 use Rattle.rules.specs.End.{each_at_most}
-use Rattle.tables.proofs.Below.{every_pass, every_stop, every_done}
-use borrow.Author.Rules.{rules}
+use Rattle.tables.proofs.Below.{every_told}
 use Rattle.locals.proofs.at_most.Goals as goal
-
-pub loop-n-init : goal.loop-n-init
-unfolding each_at_most
-loop-n-init c = search rules
-
-pub is_within-requires : goal.is_within-requires
-unfolding each_at_most
-is_within-requires c = search rules
-
-pub loop-n-preserved : goal.loop-n-preserved
-loop-n-preserved c = (search rules, search (rules, every_pass))
-
-pub returns-else-is_within : goal.returns-else-is_within
-unfolding each_at_most
-returns-else-is_within c = search (rules, every_stop)
 
 pub returns : goal.returns
 unfolding each_at_most
-returns c = search (rules, every_done)
+returns c = every_told (λ i. leb (byte c.args.x i) (byte c.args.y i)) 8 _ (λ e k h. search (rules, ranges)) (λ e. search (rules, ranges))

@@ -1,10 +1,10 @@
-use Rattle.messages.proofs.Slots.{found_slot, found_full}
-use mathlib.Core.Bool.{true≢false}
-use mathlib.Core.Path.{sym, ◌∙◌}
+use mathlib.Core.Path.{ap, ◌∙◌}
+use mathlib.Core.Bool.{not}
+use Rattle.messages.proofs.Slots.{found_slot, found_room}
 use Rattle.messages.proofs.free_slot.Goals as goal
 
-pub returns-in-At : goal.returns-in-At
-returns-in-At c = found_slot _ _ (sym c.in-At.ensures)
+pub unwrap-requires : goal.unwrap-requires
+unwrap-requires c = found_room _ _ c.lowest_empty.ensures ∙ ap not c.requires
 
-pub returns-in-Nothing : goal.returns-in-Nothing
-returns-in-Nothing c = absurd (true≢false (sym (found_full _ (sym c.in-Nothing.ensures)) ∙ c.requires.room))
+pub returns : goal.returns
+returns c = found_slot _ _ c.lowest_empty.ensures _ c.unwrap.ensures

@@ -1,11 +1,11 @@
-use Prim.Native.Nat.{◌≤◌, ◌-◌}
-use mathlib.Core.Path.{◌≡◌}
-use Rattle.tables.proofs.Walks.{first_left}
-use Rattle.rules.specs.Messages.{is_empty, lowest_empty}
+use Rattle.std.proofs.Common.{◌≡◌, ◌≤◌, ◌-◌}
+use Rattle.rules.specs.Messages.{lowest_empty}
+use Rattle.messages.proofs.Slots.{empty_from}
 use Rattle.messages.proofs.lowest_empty.Given as goal
 
-abbrev pub invariant-loop-s : goal.invariant-loop-s
-invariant-loop-s l = (l.s ≤ 128) × (first_left is_empty 16 0 128 13056 l.t l.s ≡ lowest_empty l.t)
+-- no slot before n is empty
+abbrev pub invariant-loop-n : goal.invariant-loop-n
+invariant-loop-n l = (l.n ≤ 128) × (empty_from l.t l.n ≡ lowest_empty l.t)
 
-abbrev pub decreases-loop-s : goal.decreases-loop-s
-decreases-loop-s l = 128 - l.s
+abbrev pub decreases-loop-n : goal.decreases-loop-n
+decreases-loop-n l = 128 - l.n

@@ -1,10 +1,6 @@
-use mathlib.Core.Path.{◌≡◌}
-use Prim.Native.Nat.{◌-◌, ◌≤◌}
+use Rattle.std.proofs.Common.{◌≡◌}
 use Rattle.plan.specs.Tree.{tree_size}
 use Rattle.plan.proofs.tree_size.Given as goal
 
-abbrev pub invariant-loop-h : goal.invariant-loop-h
-invariant-loop-h l = (l.h ≤ l.levels) × (l.s ≡ tree_size l.width l.h)
-
-abbrev pub decreases-loop-h : goal.decreases-loop-h
-decreases-loop-h l = l.levels - l.h
+abbrev pub invariant-loop-level : goal.invariant-loop-level
+invariant-loop-level l = l.tasks ≡ tree_size l.width l._level

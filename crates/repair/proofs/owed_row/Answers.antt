@@ -1,12 +1,8 @@
-use Rattle.tables.proofs.Below.{some_pass, some_stop, some_done}
-use borrow.Author.Rules.{rules}
+use Rattle.std.proofs.Common.{rules}
+use Rattle.std.proofs.iter.runs.Sources.{ranges}
+use Rattle.rules.specs.Books.{owed_cell}
+use Rattle.tables.proofs.Below.{some_told}
 use Rattle.repair.proofs.owed_row.Goals as goal
 
-pub returns-then-owed_cell : goal.returns-then-owed_cell
-returns-then-owed_cell c = search (rules, some_stop)
-
-pub loop-n-preserved : goal.loop-n-preserved
-loop-n-preserved c = (search rules, search (rules, some_pass))
-
 pub returns : goal.returns
-returns c = search (rules, some_done)
+returns c = some_told (owed_cell c.args.ps c.args.d c.args.b.now c.args.i) 8 _ (λ e k h. search (rules, ranges)) (λ e. search (rules, ranges))

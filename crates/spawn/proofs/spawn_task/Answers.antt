@@ -1,12 +1,17 @@
+use Rattle.std.proofs.Common.{refl, sym}
+use Rattle.answers.proofs.Joins.{refused_ne0}
 use Rattle.rules.proofs.Joins.{unchanged, changed}
-use Rattle.answers.proofs.Joins.{is_refused, is_done}
+use Rattle.spawn.proofs.Laws.{spawn_room}
 use Rattle.spawn.proofs.spawn_task.Goals as goal
 
-pub returns-then-no-ne0 : goal.returns-then-no-ne0
-returns-then-no-ne0 c = (is_refused _ _ _ c.spawn_refusal-no.ensures c.if-no-ne0.true, unchanged _ _ _ c.spawn_refusal-no.ensures c.if-no-ne0.true)
+pub returns-in_err-check_spawn-clause-tables : goal.returns-in_err-check_spawn-clause-tables
+returns-in_err-check_spawn-clause-tables c = unchanged _ _ _ c.in_err-check_spawn.ensures (refused_ne0 _)
 
-pub returns : goal.returns
-returns c = (
-  is_done _ _ _ c.spawn_refusal-no.ensures _ c.spawn_apply.ensures.0 c.if-no-ne0.false,
-  changed _ _ _ c.spawn_refusal-no.ensures _ c.if-no-ne0.false c.spawn_apply.ensures.1,
-)
+pub free_slot-s-requires : goal.free_slot-s-requires
+free_slot-s-requires c = (spawn_room _ _ _ (sym c.in_ok-check_spawn.ensures)).1
+
+pub send_task-requires-clause-room : goal.send_task-requires-clause-room
+send_task-requires-clause-room c = (spawn_room _ _ _ (sym c.in_ok-check_spawn.ensures)).0
+
+pub returns-clause-tables : goal.returns-clause-tables
+returns-clause-tables c = changed _ _ _ c.in_ok-check_spawn.ensures _ refl c.send_task.ensures.tables

@@ -1,12 +1,7 @@
-use Prim.Native.Nat.{◌-◌, ◌≤◌}
-use mathlib.Core.Path.{◌≡◌}
-use lib.ListN.{length}
+use Rattle.std.proofs.Common.{◌≡◌}
 use Rattle.tables.specs.Walks.{change_parts}
 use Rattle.rules.specs.Books.{lower_row}
 use Rattle.square.proofs.lower_column.Given as goal
 
-abbrev pub invariant-loop-j : goal.invariant-loop-j
-invariant-loop-j l = (l.j ≤ 8) × ((length l.b ≡ length l.initial.b) × (l.b ≡ change_parts (lower_row l.v l.counts) 8 0 l.j 8 l.initial.b))
-
-abbrev pub decreases-loop-j : goal.decreases-loop-j
-decreases-loop-j l = 8 - l.j
+abbrev pub invariant-loop-i : goal.invariant-loop-i
+invariant-loop-i l = l.b ≡ change_parts (lower_row l.v l.counts) 8 0 l.i 8 l.initial.b

@@ -1,23 +1,11 @@
+use Rattle.std.proofs.Common.{rules, ◌+◌, ◌*◌}
+use Rattle.std.proofs.iter.runs.Sources.{ranges}
+use lib.Dec.{leb}
+use Rattle.tables.specs.Bytes.{byte}
 use Rattle.rules.specs.Deliver.{lowers}
-use Rattle.tables.proofs.Below.{every_pass, every_stop, every_done}
-use borrow.Author.Rules.{rules}
+use Rattle.tables.proofs.Below.{every_told}
 use Rattle.square.proofs.lowers.Goals as goal
-
-pub loop-n-init : goal.loop-n-init
-unfolding lowers
-loop-n-init c = search rules
-
-pub count_fits-requires : goal.count_fits-requires
-unfolding lowers
-count_fits-requires c = search rules
-
-pub loop-n-preserved : goal.loop-n-preserved
-loop-n-preserved c = (search rules, search (rules, every_pass))
-
-pub returns-else-count_fits : goal.returns-else-count_fits
-unfolding lowers
-returns-else-count_fits c = search (rules, every_stop)
 
 pub returns : goal.returns
 unfolding lowers
-returns c = search (rules, every_done)
+returns c = every_told (λ i. leb (byte c.args.counts i) (byte c.args.b.now (8 + 8 * i + c.args.v))) 8 _ (λ e k h. search (rules, ranges)) (λ e. search (rules, ranges))

@@ -1,6 +1,5 @@
 use Rattle.tables.proofs.Writes.{part_cleared}
-use borrow.Author.Rules.{rules}
 use Rattle.tables.proofs.clear_part.Goals as goal
 
 pub returns : goal.returns
-returns c = search (rules, part_cleared)
+returns c = part_cleared _ _ _ _ c.requires (c.fill.ensures.after (λ y e. e))

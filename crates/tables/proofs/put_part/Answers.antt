@@ -1,12 +1,11 @@
-use Rattle.tables.proofs.Writes.{copy_none, copy_more, copy_done}
-use borrow.Author.Rules.{rules}
+use mathlib.Core.Path.{ap, ◌∙◌}
+use native.Mathlib.Omega.{arith}
+use lib.ListN.{length}
+use Rattle.tables.specs.Bytes.{write}
+use Rattle.tables.proofs.Writes.{part_back}
 use Rattle.tables.proofs.put_part.Goals as goal
 
-pub loop-j-init : goal.loop-j-init
-loop-j-init c = (search rules, (search rules, search (rules, copy_none)))
-
-pub loop-j-preserved : goal.loop-j-preserved
-loop-j-preserved c = (search rules, (search rules, search (rules, copy_more)))
-
 pub returns : goal.returns
-returns c = search (rules, copy_done)
+returns c =
+    part_back _ _ _ _ _ (ap length c.copy_from_slice.ensures.after) (omega arith) c.requires
+    ∙ ap (write c.args.t.now c.args.at) c.copy_from_slice.ensures.after

@@ -1,5 +1,0 @@
-use Rattle.books.proofs.Lent.{book_lent}
-use Rattle.books.proofs.book_column.Goals as goal
-
-pub returns : goal.returns
-returns c = rw (book_lent _ _ _ c.book-a.ensures) at c.column_of.ensures

@@ -1,4 +1,0 @@
-use Rattle.fields.proofs.put_finish_status.Goals as goal
-
-pub returns : goal.returns
-returns c = rw c.wide.ensures.0

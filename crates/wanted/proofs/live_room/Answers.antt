@@ -1,4 +1,0 @@
-use Rattle.wanted.proofs.live_room.Goals as goal
-
-pub returns : goal.returns
-returns c = rw c.live_at.ensures

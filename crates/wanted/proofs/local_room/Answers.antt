@@ -1,4 +1,0 @@
-use Rattle.wanted.proofs.local_room.Goals as goal
-
-pub returns : goal.returns
-returns c = rw c.local_byte.ensures
