@@ -3,7 +3,7 @@
 #![tactic(auto)]
 
 ghost use Rattle.std.specs.Prelude.{◌≡◌};
-ghost use Rattle.rules.specs.Action.{action_of};
+ghost use Rattle.rules.specs.Action.{action_of, begin};
 ghost use Rattle.rules.specs.Refusals.{unsound};
 ghost use Rattle.answers.specs.Answers.{number_of};
 ghost use Rattle.actions.specs.Records.{record_answer, record_after, record_of, asked, ActionFrom};
@@ -131,6 +131,15 @@ fn is_unsound(t: &SessionTables, action: Action) -> bool
     }
 }
 
+// Begins a session of so many places, or refuses and changes nothing; the tables need not be sound.
+#[tactic(auto, using(crate::proofs::Records::records), unfolding(rules::specs::Refusals::no_action, rules::specs::Refusals::unsound))]
+pub fn begin_action(t: &mut SessionTables, places: u32) -> Answer
+    ensures answer { number_of result ≡ record_answer t.old (begin places) }
+    ensures tables { t.new ≡ record_after t.old (begin places) }
+{
+    opening::begin_session(t, places)
+}
+
 // Takes the step of an action, or refuses it and changes nothing.
 #[tactic(auto, using(crate::proofs::Records::records, crate::proofs::Inside::few, sound::proofs::Use::finishes_most), unfolding(rules::specs::Refusals::no_action, rules::specs::Refusals::unsound))]
 pub fn act(t: &mut SessionTables, action: Action) -> Answer
@@ -153,12 +162,12 @@ pub fn act(t: &mut SessionTables, action: Action) -> Answer
             dead_place,
             live_place,
         } => ask::ask_dropped(t, finish, dead_place, live_place),
-        Action::Begin { places } => opening::begin_session(t, places),
+        Action::Begin { places } => begin_action(t, places),
     }
 }
 
 // The same for the action that a record names.
-#[tactic(auto, using(crate::proofs::Records::unknown_says, crate::proofs::Records::unknown_keeps))]
+#[tactic(auto, using(crate::proofs::Records::unknown_says, crate::proofs::Records::unknown_keeps), unfolding(rules::specs::Action::action_of))]
 pub fn act_on(t: &mut SessionTables, bytes: [u8; Tables::RECORD]) -> Answer
     ensures answer { number_of result ≡ record_answer t.old (action_of bytes) }
     ensures tables { t.new ≡ record_after t.old (action_of bytes) }

@@ -2,6 +2,7 @@
 #![tactic(auto)]
 
 ghost use Rattle.std.specs.Prelude.{◌≡◌, ◌+◌, ◌≤◌, ◌<◌, IfOk};
+ghost use Rattle.tables.specs.Bytes.{part, write};
 ghost use Rattle.tables.specs.Walks.{change_parts};
 ghost use Rattle.rules.specs.Fields.{finishes_made, ghost_byte};
 ghost use Rattle.rules.specs.Action.{adopt};
@@ -17,11 +18,13 @@ use square::Book;
 use std::array;
 use tables::{Finish, SessionTables, Tables};
 
-// Book b, of finish g, is an orphan of f: present and not adopted, f its parent and its home dead.
+// The book at place `at`, of finish g, is an orphan of f: present and not adopted, f its parent and its home dead.
 #[tactic(auto, unfolding(rules::specs::Adopt::orphan, tables::specs::Walks::every))]
-fn is_orphan(t: &SessionTables, b: &Book, f: Finish, g: Finish) -> bool
-    ensures { result ≡ orphan t.now f b.now g }
+fn is_orphan(t: &SessionTables, at: usize, f: Finish, g: Finish) -> bool
+    requires { at + 144 ≤ 15104 }
+    ensures { result ≡ orphan t.now f (part t.now at 144) g }
 {
+    let b: &Book = tables::part(t, at);
     b[Tables::PRESENT] == 1
         && b[Tables::ADOPTED] == 0
         && b[Tables::PARENT] == f.number()
@@ -37,7 +40,7 @@ fn with_ghosts(t: &SessionTables, f: Finish, k: u8) -> u8
     let mut marks = counts::book_byte(t, f, 4 + usize::from(k));
     for j in 0..8 {
         let g = Finish::new(8 * k + j + 1);
-        if is_orphan(t, tables::part(t, Tables::book(g)), f, g) {
+        if is_orphan(t, Tables::book(g), f, g) {
             marks = tables::with_mark(marks, j);
         }
     }
@@ -52,13 +55,14 @@ fn new_ghosts(t: &SessionTables, f: Finish) -> [u8; 4]
     array::from_fn(|k| with_ghosts(t, f, k as u8))
 }
 
-// Book b, of finish g, becomes adopted where it is an orphan of f.
-#[tactic(auto, unfolding(rules::specs::Adopt::adopt_book))]
-fn adopt_book(t: &SessionTables, b: &mut Book, f: Finish, g: Finish)
-    ensures { b.new ≡ adopt_book t.now f b.old g }
+// The book at place `at`, of finish g, becomes adopted where it is an orphan of f.
+#[tactic(auto, using(crate::proofs::Orphans::adopted, crate::proofs::Orphans::not_adopted), unfolding(rules::specs::Adopt::adopt_book))]
+fn adopt_book(t: &mut SessionTables, at: usize, f: Finish, g: Finish)
+    requires { at + 144 ≤ 15104 }
+    ensures { t.new ≡ write t.old at (adopt_book t.old f (part t.old at 144) g) }
 {
-    if is_orphan(t, b, f, g) {
-        b[Tables::ADOPTED] = 1;
+    if is_orphan(t, at, f, g) {
+        t[at + Tables::ADOPTED] = 1;
     }
 }
 
@@ -67,11 +71,12 @@ fn adopt_books(t: &mut SessionTables, f: Finish)
     ensures { t.new ≡ change_parts (adopt_book t.old f) 144 1 32 2304 t.old }
 {
     let at = Tables::ROW * Tables::FIRST_BOOK;
-    walk::change_parts(
+    walk::write_parts(
         t,
         at,
+        Tables::BOOK_BYTES,
         Tables::FINISHES,
-        |t, b, j| adopt_book(t, b, f, Finish::new(1 + j as u8)),
+        |t, at, j| adopt_book(t, at, f, Finish::new(1 + j as u8)),
     );
 }
 

@@ -21,14 +21,6 @@ pub fn book(t: &SessionTables, f: Finish) -> &Book
     tables::part(t, Tables::book(f))
 }
 
-// The book of f becomes b.
-#[tactic(auto, using(crate::proofs::Places::book_put))]
-fn put_book(t: &mut SessionTables, f: Finish, b: &Book)
-    ensures { t.new ≡ with_book t.old f b.now }
-{
-    tables::put_part(t, Tables::book(f), b);
-}
-
 // Column v of a book that is lent as a part of the tables becomes 0.
 fn clear_in(part: &mut [u8], v: Place)
     requires { length part.old ≡ 144 }
@@ -48,6 +40,17 @@ fn lower_in(part: &mut [u8], v: Place, counts: [u8; 8])
 {
     if let Some(b) = part.as_mut_array() {
         square::lower_column(b, v, counts);
+    }
+}
+
+// A book that is lent as a part of the tables becomes a new one: home h, parent q.
+fn new_in(part: &mut [u8], h: Place, q: u8)
+    requires { length part.old ≡ 144 }
+    ensures new { part.new ≡ new_book h q }
+    ensures whole { length part.new ≡ 144 }
+{
+    if let Some(b) = part.as_mut_array() {
+        square::write_new(b, h, q);
     }
 }
 
@@ -71,7 +74,8 @@ pub fn lower_book(t: &mut SessionTables, f: Finish, v: Place, counts: [u8; 8])
 pub fn new_book(t: &mut SessionTables, f: Finish, h: Place, q: u8)
     ensures { t.new ≡ with_book t.old f (new_book h q) }
 {
-    put_book(t, f, &square::new_book(h, q));
+    let a = Tables::book(f);
+    new_in(&mut t[a..a + Tables::BOOK_BYTES], h, q);
 }
 
 // The book of f becomes 0.

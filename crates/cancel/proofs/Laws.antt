@@ -40,7 +40,7 @@ part-write t vs k n l h =
     ∙ take-append_seam vs rest
 
 module _ (t : List ℕ) (f v : ℕ) (whole : Whole t) (finish : (1 ≤ f) × (f ≤ 32)) where
-  book_long : length (book_of t f) ≡ 144
+  pub book_long : length (book_of t f) ≡ 144
   unfolding book_of
   book_long = let high = finish.1 in length_part t (book_place f) 144 (omega arith)
 

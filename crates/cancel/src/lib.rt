@@ -20,9 +20,8 @@ use tables::{Finish, Place, SessionTables, Slot};
 fn closes_without(t: &SessionTables, f: Finish, v: Place) -> bool
     ensures { result ≡ closes (cleared_column (book_of t.now f) v) }
 {
-    let mut b = *books::book(t, f);
-    square::clear_column(&mut b, v);
-    square::closes(&b)
+    let b = books::book(t, f);
+    square::total_of(b) == square::column_of(b, v) && square::ghosts_of(b) == 0
 }
 
 // The closing test after a cancel would send.

@@ -92,7 +92,7 @@ pub fn task_made(t: &SessionTables, k: u8) -> bool
 }
 
 // Finish f was made.
-fn finish_made(t: &SessionTables, f: u8) -> bool
+pub fn finish_made(t: &SessionTables, f: u8) -> bool
     ensures { result ≡ finish_made t.now f }
 {
     1 <= f && f <= t[Tables::FINISHES_MADE]

@@ -10,10 +10,9 @@ ghost use Rattle.rules.specs.Step.{after};
 ghost use Rattle.rules.specs.Quiet.{running_tasks, messages_in_flight, quiet};
 ghost use Rattle.finish.specs.Readings.{reading, status_of};
 
-use actions::Action;
 use answers::Refusal;
 use fields::FinishField;
-use tables::{Finish, SessionTables, Tables};
+use tables::{SessionTables, Tables};
 
 // What a reading answers where the tables have another length: outside the range of every reading.
 const NO_READING: u32 = 4294967295;
@@ -51,7 +50,7 @@ pub fn finish_begin(t: &mut [u8], places: u32) -> u32
     let Some(tables) = t.as_mut_array() else {
         return Refusal::WrongLength.into();
     };
-    answers::number_of(actions::act(tables, Action::Begin { places }))
+    answers::number_of(actions::begin_action(tables, places))
 }
 
 // A reading of tables of the right length.

@@ -1,5 +1,5 @@
 -- What a kill makes of a row is as long as the row; what it makes of a slot is told by the home of the message's finish.
-use mathlib.Core.Path.{◌≡◌, ap, ◌∙◌}
+use mathlib.Core.Path.{◌≡◌, ◌∙◌}
 use mathlib.Core.Bool.{Bool, true, false, cond}
 use mathlib.Core.Logic.{inl, inr}
 use mathlib.Core.List.{List}
@@ -39,10 +39,11 @@ unfolding kill_slot
 slot_keeps t p m s h = cleared_keeps (eqb (goes_to t (message_in m)) p) 16 m h
 
 -- the home is read in the tables as they are by then, which have it as it was
-pub slot_due : (t u b : List ℕ) (p j s : ℕ) → ((i : ℕ) → byte t i < 256) → j < 128 → Due u t 13056 16 j → b ≡ part u (13056 + 16 * j) 16 → kill_slot u p b 0 ≡ kill_slot t p b s
+pub slot_due : (t u : List ℕ) (p j s : ℕ) → ((i : ℕ) → byte t i < 256) → j < 128 → Due u t 13056 16 j
+    → kill_slot u p (part u (13056 + 16 * j) 16) 0 ≡ kill_slot t p (part u (13056 + 16 * j) 16) s
 unfolding kill_slot
-slot_due t u b p j s fits h due out =
-    let f : byte b 1 ≡ byte t (13056 + 16 * j + 1) =
-    ap (λ (r : List ℕ). byte r 1) out ∙ byte-part u (13056 + 16 * j) 16 1 (omega arith) ∙ due (13056 + 16 * j + 1) (inr (omega arith)) in
+slot_due t u p j s fits h due =
+    let b = part u (13056 + 16 * j) 16 in
+    let f : byte b 1 ≡ byte t (13056 + 16 * j + 1) = byte-part u (13056 + 16 * j) 16 1 (omega arith) ∙ due (13056 + 16 * j + 1) (inr (omega arith)) in
     let small : byte b 1 < 256 = omega (arith, fits (13056 + 16 * j + 1)) in
     slot_same t u b p 0 (due (8 * (255 + byte b 1) + 0) (inl (omega arith)))

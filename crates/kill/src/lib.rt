@@ -19,7 +19,11 @@ fn kill_tasks(t: &mut SessionTables, p: u8, n: u8)
     ensures { t.new ≡ change_parts (kill_task p) 8 1 n 8 t.old }
 {
     let at = Tables::ROW * Tables::FIRST_TASK;
-    walk::change_parts(t, at, usize::from(n), |_, row, _| loss::kill_task(row, p));
+    walk::change_parts(t, at, Tables::ROW, usize::from(n), |part, _| {
+        if let Some(row) = part.as_mut_array() {
+            loss::kill_task(row, p);
+        }
+    });
 }
 
 // The rows of n finishes.
@@ -27,7 +31,11 @@ fn kill_finishes(t: &mut SessionTables, p: u8, n: u8)
     ensures { t.new ≡ change_parts (kill_finish p) 8 1 n 2048 t.old }
 {
     let at = Tables::ROW * Tables::FIRST_FINISH;
-    walk::change_parts(t, at, usize::from(n), |_, row, _| loss::kill_finish(row, p));
+    walk::change_parts(t, at, Tables::ROW, usize::from(n), |part, _| {
+        if let Some(row) = part.as_mut_array() {
+            loss::kill_finish(row, p);
+        }
+    });
 }
 
 // The store books.
@@ -35,7 +43,11 @@ fn kill_books(t: &mut SessionTables, p: Place)
     ensures { t.new ≡ change_parts (kill_book p) 144 1 32 2304 t.old }
 {
     let at = Tables::ROW * Tables::FIRST_BOOK;
-    walk::change_parts(t, at, Tables::FINISHES, |_, b, _| loss::kill_book(b, p));
+    walk::change_parts(t, at, Tables::BOOK_BYTES, Tables::FINISHES, |part, _| {
+        if let Some(b) = part.as_mut_array() {
+            loss::kill_book(b, p);
+        }
+    });
 }
 
 // The local books of all finishes at all places.
@@ -43,12 +55,12 @@ fn kill_locals(t: &mut SessionTables, p: usize)
     ensures { t.new ≡ change_parts (kill_local p) 24 0 256 6912 t.old }
 {
     let at = Tables::ROW * Tables::FIRST_LOCAL;
-    walk::change_parts(
-        t,
-        at,
-        Tables::FINISHES * Tables::PLACES,
-        |_, b, y| loss::kill_local(b, y, p),
-    );
+    let books = Tables::FINISHES * Tables::PLACES;
+    walk::change_parts(t, at, Tables::ROW * Tables::LOCAL_ROWS, books, |part, y| {
+        if let Some(b) = part.as_mut_array() {
+            loss::kill_local(b, y, p);
+        }
+    });
 }
 
 // The slots.
@@ -56,11 +68,12 @@ fn kill_slots(t: &mut SessionTables, p: Place)
     ensures { t.new ≡ change_parts (kill_slot t.old p) 16 0 128 13056 t.old }
 {
     let at = Tables::ROW * Tables::FIRST_SLOT;
-    walk::change_parts(
+    walk::write_parts(
         t,
         at,
+        Tables::ROW * Tables::SLOT_ROWS,
         Tables::SLOTS,
-        |t, slot, _| loss::kill_slot(t, slot, p),
+        |t, at, _| loss::kill_slot(t, at, p),
     );
 }
 

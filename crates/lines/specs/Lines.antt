@@ -20,3 +20,11 @@ step_line log k =
 unfoldable pub step_lines : List ℕ → ℕ → List ℕ
 step_lines log zero = []
 step_lines log (suc n) = step_lines log n ++ step_line log (5 * n)
+
+-- the last line: "end", and three numbers
+abbrev pub end_line : ℕ → ℕ → ℕ → List ℕ
+end_line a b c = 101 ∷ 110 ∷ 100 ∷ 32 ∷ (word a 32 ++ (word b 32 ++ word c 10))
+
+-- the line of a last incomplete record: its number, and "short"
+abbrev pub short_line : ℕ → List ℕ
+short_line number = word number 32 ++ (115 ∷ 104 ∷ 111 ∷ 114 ∷ 116 ∷ 10 ∷ [])

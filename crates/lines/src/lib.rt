@@ -2,10 +2,11 @@
 // the end.
 #![tactic(auto)]
 
-ghost use Rattle.std.specs.Prelude.{◌≡◌, ◌+◌, ◌*◌, ◌≤◌, ◌++◌, length, IfOk, OnErr};
+ghost use Rattle.std.specs.Prelude.{◌≡◌, ◌+◌, ◌*◌, ◌≤◌, ◌++◌, length, IfOk, OnErr, OnOk};
+ghost use Rattle.std.specs.Io.KnownBytes.{Appends};
 ghost use Rattle.io.specs.Counts.{IsPrefixLen};
 ghost use Rattle.arrayvec.specs.ArrayString.{array_string_len};
-ghost use Rattle.lines.specs.Lines.{record_line, step_line, step_lines};
+ghost use Rattle.lines.specs.Lines.{record_line, step_line, step_lines, end_line};
 
 use arrayvec::ArrayString;
 use itoa::{Buffer, Integer};
@@ -47,17 +48,14 @@ fn put_step<const N: usize>(out: &mut ArrayString<N>, step: &[u8; 5])
     put_word(out, step[4], "\n");
 }
 
-// The lines of the first n steps of a log.
-#[tactic(auto, using(crate::proofs::Steps::part_line), unfolding(crate::specs::Lines::step_lines))]
-pub fn step_lines<const N: usize>(log: &[u8], n: usize) -> ArrayString<N>
-    requires { (20 * n ≤ N) × (5 * n ≤ length log.now) }
-    ensures { result.bytes ≡ step_lines log.now n }
+// Puts the lines of the first n steps of a log.
+pub fn put_steps<const N: usize>(out: &mut ArrayString<N>, log: &[u8], n: usize)
+    requires { (array_string_len out.old + 20 * n ≤ N) × (5 * n ≤ length log.now) }
+    ensures { out.new.bytes ≡ out.old.bytes ++ step_lines log.now n }
 {
-    let mut out = ArrayString::new();
     for i in 0..n {
-        put_step(&mut out, tables::part(log, 5 * i));
+        put_step(out, tables::part(log, 5 * i));
     }
-    out
 }
 
 // Reads a line, byte by byte, so that nothing after it is read: up to its newline, which is left out, or to the end of the input, or as
@@ -94,6 +92,8 @@ pub fn read_full<R: Read>(input: &mut R, buf: &mut [u8]) -> io::Result<usize>
 
 // Says the last line: of the printed run its running tasks, the status of finish 1 and the messages in flight; of a tree its steps,
 // kills and zero answers.
-pub fn say_end<W: Write>(out: &mut W, a: u32, b: u32, c: u32) -> io::Result<()> {
+pub fn say_end<W: Write>(out: &mut W, a: u32, b: u32, c: u32) -> io::Result<()>
+    ensures { OnOk result (Appends (W.contents out.old) (W.contents out.new) (end_line a b c)) }
+{
     writeln!(out, "end {a} {b} {c}")
 }

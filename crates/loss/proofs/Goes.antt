@@ -1,14 +1,15 @@
--- Where a message goes is told by its tag; nothing of the tables but the home of its finish matters.
-use mathlib.Core.Path.{◌≡◌, refl, fun_ext}
+-- Where a message goes is told by its tag; nothing of the tables but the home of its finish matters. A slot written as it is.
+use mathlib.Core.Path.{◌≡◌, refl, sym, ap, ◌∙◌, fun_ext}
 use mathlib.Core.Bool.{cond}
 use mathlib.Core.List.{List}
 use Prim.Native.Nat.{ℕ, ◌+◌, ◌*◌}
 use native.Mathlib.Omega.{arith}
 use lib.Dec.{eqb}
 use lib.ListN.{set}
-use lib.Seq.{get_or-set_other}
+use lib.Seq.{get_or-set_other, set-get_or}
 use Rattle.std.proofs.lemmas.Bool.Decides.{nat_tests}
-use Rattle.tables.specs.Bytes.{byte}
+use Rattle.tables.specs.Bytes.{byte, part, write}
+use Rattle.tables.proofs.Writes.{byte-part, write-part-set}
 use Rattle.rules.specs.Fields.{home}
 use Rattle.rules.specs.Messages.{tagged, message_in, goes_to, store}
 use Rattle.rules.specs.Kill.{kill_slot}
@@ -38,3 +39,11 @@ slot_same t u m p s h = rw (goes_in u m, goes_in t m, h) refl
 -- the dead mask is no home
 pub mark_aside : (t : List ℕ) (v p : ℕ) → kill_slot (set t 1 v) p ≡ kill_slot t p
 mark_aside t v p = fun_ext (λ m. fun_ext (λ s. slot_same t (set t 1 v) m p s (get_or-set_other t 1 (8 * (255 + byte m 1) + 0) v 0 (λ q. omega arith))))
+
+-- a slot written as it is
+pub write_unchanged : (t : List ℕ) (at : ℕ) → write t at (part t at 16) ≡ t
+write_unchanged t at =
+    ap (write t at) (sym (set-get_or (part t at 16) 0 0))
+    ∙ write-part-set t at 16 0 (byte (part t at 16) 0) (omega arith)
+    ∙ ap (set t (at + 0)) (byte-part t at 16 0 (omega arith))
+    ∙ set-get_or t (at + 0) 0

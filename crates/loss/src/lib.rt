@@ -1,8 +1,8 @@
 // What the loss of a place does to one row: a task, a finish, a store book, a local book, a slot.
 #![tactic(auto)]
 
-ghost use Rattle.std.specs.Prelude.{◌≡◌, [], ◌∷◌, eqb, not, unwrap_or};
-ghost use Rattle.tables.specs.Bytes.{byte};
+ghost use Rattle.std.specs.Prelude.{◌≡◌, [], ◌∷◌, ◌+◌, ◌≤◌, eqb, not, unwrap_or};
+ghost use Rattle.tables.specs.Bytes.{byte, part, write};
 ghost use Rattle.tables.specs.Walks.{every};
 ghost use Rattle.rules.specs.Books.{column};
 ghost use Rattle.rules.specs.Messages.{goes_to, message_in, store};
@@ -100,12 +100,21 @@ fn goes_to(t: &SessionTables, slot: &[u8; 16]) -> Option<u8>
     }
 }
 
-// A slot: a message that goes to p vanishes.
-#[tactic(auto, unfolding(rules::specs::Kill::kill_slot))]
-pub fn kill_slot(t: &SessionTables, slot: &mut [u8; 16], p: Place)
-    ensures { slot.new ≡ kill_slot t.now p slot.old 0 }
+// The message of the slot at place `at` goes to p.
+fn goes_to_place(t: &SessionTables, at: usize, p: Place) -> bool
+    requires { at + 16 ≤ 15104 }
+    ensures { result ≡ eqb (goes_to t.now (message_in (part t.now at 16))) p }
 {
-    if goes_to(t, slot) == Some(p.number()) {
-        *slot = [0; 16];
+    goes_to(t, tables::part(t, at)) == Some(p.number())
+}
+
+// The slot at place `at`: a message that goes to p vanishes.
+#[tactic(auto, using(crate::proofs::Goes::write_unchanged), unfolding(rules::specs::Kill::kill_slot))]
+pub fn kill_slot(t: &mut SessionTables, at: usize, p: Place)
+    requires { at + 16 ≤ 15104 }
+    ensures { t.new ≡ write t.old at (kill_slot t.old p (part t.old at 16) 0) }
+{
+    if goes_to_place(t, at, p) {
+        tables::clear_part(t, at, Tables::ROW * Tables::SLOT_ROWS);
     }
 }

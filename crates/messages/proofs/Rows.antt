@@ -1,24 +1,26 @@
--- Numbers counted by a test, as the rules count the parts of which it holds.
+-- Rows counted one by one, as the rules count the parts of which a test holds.
 use mathlib.Core.Path.{◌≡◌, refl}
-use mathlib.Core.Bool.{Bool, true, false, cond}
-use mathlib.Core.List.{List, ◌∷◌}
-use Prim.Native.Nat.{ℕ, zero, suc, ◌+◌}
+use mathlib.Core.Bool.{Bool}
+use mathlib.Core.List.{List}
+use Prim.Native.Nat.{ℕ, zero, suc, ◌+◌, ◌*◌}
+use native.Mathlib.Nat.{add-zero, mul-suc, mul-zero}
 use native.Mathlib.Numerals.{add-one}
 use native.Mathlib.Omega.{arith}
-use lib.ListN.{drop, length}
+use lib.ListN.{drop}
 use lib.Seq.{drop-drop}
-use Rattle.std.specs.List.{range_with_len, filter}
 use Rattle.tables.specs.Bits.{digit}
 use Rattle.tables.specs.Walks.{count_parts}
 
--- the part of number x is at place `at x`, w bytes long
-module _ (p : List ℕ → ℕ → Bool) (w : ℕ) (test : ℕ → Bool) (at : ℕ → ℕ) (t : List ℕ)
-    (here : (x : ℕ) → p (drop (at x) t) x ≡ test x) (step : (x : ℕ) → at x + w ≡ at (suc x)) where
-  pub counted_rows : (n i : ℕ) → length (filter test (range_with_len i n)) ≡ count_parts p w i n (drop (at i) t)
+module _ (p : List ℕ → ℕ → Bool) (w : ℕ) where
+  one_more : (n i : ℕ) (m : List ℕ) → count_parts p w i (suc n) m ≡ count_parts p w i n m + digit (p (drop (w * n) m) (i + n))
   unfolding count_parts
-  counted_rows zero i = refl
-  counted_rows (suc n) i = rw (here i, add-one i, drop-drop w (at i) t, step i, ← counted_rows n (suc i)) (go (test i) (filter test (range_with_len (suc i) n)))
-    where
-      go : (b : Bool) (l : List ℕ) → length (cond b (i ∷ l) l) ≡ digit b + length l
-      go true l = omega arith
-      go false l = omega arith
+  one_more zero i m = rw (mul-zero w, add-zero i) (omega arith)
+  one_more (suc n) i m =
+      let z : w + w * n ≡ w * suc n = omega (arith, mul-suc w n) in
+      let x : suc i + n ≡ i + suc n = omega arith in
+      rw (one_more n (suc i) (drop w m), drop-drop (w * n) w m, z, x) (omega arith)
+
+  -- c of the first n parts, the first of them number i at place k, and d for the next, number x at place `at`
+  pub counted_more : (n i k at x c d : ℕ) (t : List ℕ) → c ≡ count_parts p w i n (drop k t) → d ≡ digit (p (drop at t) x) → k + w * n ≡ at → i + n ≡ x
+      → c + d ≡ count_parts p w i (n + 1) (drop k t)
+  counted_more n i k at x c d t e more place number = rw (add-one n, one_more n i (drop k t), drop-drop (w * n) k t, place, number, e, more) refl

@@ -132,9 +132,11 @@ pub fn empty_slot(t: &mut SessionTables, s: Slot)
 pub fn messages_in_flight(t: &SessionTables) -> u32
     ensures { result ≡ messages_in_flight t.now }
 {
-    (0..Slot::COUNT)
-        .filter(|n| !is_empty(t, Slot::new(*n)))
-        .count() as u32
+    let mut full = 0;
+    for n in 0..Slot::COUNT {
+        full += u32::from(!is_empty(t, Slot::new(n)));
+    }
+    full
 }
 
 // Task k runs.
@@ -148,9 +150,11 @@ fn is_running(t: &SessionTables, k: u8) -> bool
 pub fn running_tasks(t: &SessionTables) -> u32
     ensures { result ≡ running_tasks t.now }
 {
-    (1..=t[Tables::TASKS_MADE])
-        .filter(|k| is_running(t, *k))
-        .count() as u32
+    let mut running = 0;
+    for made in 0..t[Tables::TASKS_MADE] {
+        running += u32::from(is_running(t, made + 1));
+    }
+    running
 }
 
 // All 128 slots are full.

@@ -43,16 +43,17 @@ fn owed_cell(b: &Book, ps: u8, d: u8, i: Place, j: Place) -> bool
         && !tables::is_marked(b[Tables::ASKED + i.index()], j.number())
 }
 
-// Some count from i is owed.
+// Some count from i is owed; none is where i is not dead.
 fn owed_row(b: &Book, ps: u8, d: u8, i: Place) -> bool
     ensures { result ≡ some_below (owed_cell ps d b.now i) 8 }
 {
-    (0..Place::COUNT).any(
-        |j: u8| -> bool
-            requires { j < 8 }
-            ensures { result ≡ owed_cell ps d b.entry.now i j }
-        { owed_cell(b, ps, d, i, Place::new(j)) },
-    )
+    tables::is_marked(d, i.number())
+        && (0..Place::COUNT).any(
+            |j: u8| -> bool
+                requires { j < 8 }
+                ensures { result ≡ owed_cell ps d b.entry.now i j }
+            { owed_cell(b, ps, d, i, Place::new(j)) },
+        )
 }
 
 // A count is owed: of ps places those of the dead mask d are dead.

@@ -2,28 +2,31 @@
 // the running tasks, the status of finish 1 and the messages in flight.
 #![tactic(auto)]
 
-ghost use Rattle.std.specs.Prelude.{◌+◌, ◌^◌, ◌≤◌, ◌<◌, length};
+ghost use Rattle.std.specs.Prelude.{◌≡◌, ◌+◌, ◌^◌, ◌≤◌, ◌<◌, length, OnOk};
+ghost use Rattle.std.specs.Io.KnownBytes.{Appends};
+ghost use Rattle.arrayvec.specs.ArrayString.{array_string_len};
+ghost use Rattle.lines.specs.Lines.{short_line};
 
 use arrayvec::ArrayString;
 use std::io::{self, Read, Write};
 use tables::{SessionTables, Tables};
 
-// Plays the whole records of a part of a schedule, the first of them with this number, and answers their lines.
-fn play(t: &mut SessionTables, schedule: &[u8], first: u64) -> ArrayString<65536>
-    requires inside { length schedule.now ≤ 4096 }
+// Plays the whole records of a part of a schedule, the first of them with this number, and puts their lines into an empty text.
+fn play(t: &mut SessionTables, schedule: &[u8], first: u64, out: &mut ArrayString<65536>)
+    requires inside { (length schedule.now ≤ 4096) × (array_string_len out.old ≡ 0) }
     requires in_range { first + 1024 < 2 ^ 64 }
 {
-    let mut out = ArrayString::new();
     for i in 0..schedule.len() / Tables::RECORD {
         let at = Tables::RECORD * i;
         let answer = finish::step_at(t, schedule, at);
-        lines::put_line(&mut out, first + i as u64, schedule[at], answer);
+        lines::put_line(out, first + i as u64, schedule[at], answer);
     }
-    out
 }
 
 // Says a last incomplete record, of this number.
-fn say_short<W: Write>(out: &mut W, number: u64) -> io::Result<()> {
+fn say_short<W: Write>(out: &mut W, number: u64) -> io::Result<()>
+    ensures { OnOk result (Appends (W.contents out.old) (W.contents out.new) (short_line number)) }
+{
     writeln!(out, "{number} short")
 }
 
@@ -39,7 +42,8 @@ fn play_some<R: Read, W: Write>(
 {
     let mut schedule = [0u8; 4096];
     let n = lines::read_full(input, &mut schedule)?;
-    let text = play(t, &schedule[..n], first);
+    let mut text = ArrayString::new();
+    play(t, &schedule[..n], first, &mut text);
     output.write_all(text.as_str().as_bytes())?;
     if n == schedule.len() {
         return Ok(true);

@@ -11,16 +11,16 @@ use tables::{Finish, SessionTables, Slot, Tables, part};
 fn tasks_fit(t: &SessionTables, head: Head) -> bool
     ensures { result ≡ tasks_sound head.places head.tasks head.finishes t.now }
 {
-    (1..=head.tasks).all(|k| task_fits(head, usize::from(k), part(t, Tables::task(k))))
+    (1..usize::from(head.tasks) + 1).all(|k| task_fits(head, k, part(t, Tables::ROW * k)))
 }
 
 // The made finishes.
 fn finishes_fit(t: &SessionTables, head: Head) -> bool
     ensures { result ≡ finishes_sound head.places head.tasks head.finishes t.now }
 {
-    (1..=head.finishes).all(|f| {
-        let at = Tables::finish(f);
-        finish_fits(head, usize::from(f), part(t, at))
+    (1..usize::from(head.finishes) + 1).all(|f| {
+        let at = Tables::ROW * (Tables::TASKS + f);
+        finish_fits(head, f, part(t, at))
     })
 }
 
@@ -28,7 +28,7 @@ fn finishes_fit(t: &SessionTables, head: Head) -> bool
 fn books_fit(t: &SessionTables, head: Head) -> bool
     ensures { result ≡ books_sound head.finishes t.now }
 {
-    (1..=Finish::COUNT).all(|f| book_fits(
+    (1..Finish::COUNT + 1).all(|f| book_fits(
         head,
         usize::from(f),
         part(t, Tables::book(Finish::new(f))),
@@ -43,6 +43,7 @@ fn slots_fit(t: &SessionTables, head: Head) -> bool
 }
 
 // Every tested field is in its range.
+#[inline(never)]
 #[tactic(auto, unfolding(tables::specs::Walks::every, rules::specs::Sound::sound, rules::specs::Sound::rows_sound))]
 pub fn is_sound(t: &SessionTables) -> bool
     ensures { result ≡ sound t.now }

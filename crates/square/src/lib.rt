@@ -109,16 +109,15 @@ pub fn lower_column(b: &mut Book, v: Place, counts: [u8; 8])
     }
 }
 
-// A new book with live and sent 1 at h, h; its parent is q.
+// The book becomes a new one: live and sent 1 at h, h; its parent is q.
 #[tactic(auto, using(crate::proofs::New::new_book_lem))]
-pub fn new_book(h: Place, q: u8) -> Book
-    ensures { result ≡ new_book h q }
+pub fn write_new(b: &mut Book, h: Place, q: u8)
+    ensures { b.new ≡ new_book h q }
 {
     let h = h.index();
-    let mut b = [0; 144];
+    b.fill(0);
     b[Tables::PRESENT] = 1;
     b[Tables::PARENT] = q;
     b[Tables::LIVE + 8 * h + h] = 1;
     b[Tables::SENT + 8 * h + h] = 1;
-    b
 }

@@ -4,11 +4,17 @@ use mathlib.Core.Bool.{Bool, true, false, ◌&&◌, ◌||◌, not, or_comm, and-
 use Prim.Native.Nat.{ℕ, zero, suc, ◌+◌, ◌*◌, ◌/◌, ◌%◌, ◌^◌, ◌≤◌, ◌<◌, max}
 use native.Mathlib.Nat.{pow-suc, one-mul}
 use native.Mathlib.Omega.{arith}
+use mir.Val.{bool_byte}
 use lib.Dec.{eqb, ltb, eqb-zero-suc, eqb-suc-zero, eqb-suc-suc}
 use lib.Bits.{bit_or, or_step, or_lt}
 use lib.Pow.{pow-lt, shl_exact, shr-shr}
 use borrow.Author.Tests.{eqb-true, eqb-false, eq-eqb, ne_eqb, lt-ltb, le-ltb, ltb-true, ltb-false}
 use Rattle.tables.specs.Bits.{digit, bit_at, mask, marked, with_mark, without_mark}
+
+-- a truth as the number that the code makes of it
+pub byte_digit : (b : Bool) → bool_byte b ≡ digit b
+byte_digit true = refl
+byte_digit false = refl
 
 pub digit-le : (b : Bool) → digit b ≤ 1
 digit-le true = omega arith

@@ -20,7 +20,9 @@ pub struct Tables;
 impl Tables {
     pub const ROW: usize = 8;
 
-    pub const BYTES: usize = 15104;
+    pub const ROWS: usize = 1888;
+
+    pub const BYTES: usize = Tables::ROW * Tables::ROWS;
 
     pub const RECORD: usize = 4;
 

@@ -2,6 +2,10 @@
 // step; then tasks made, finishes made, messages in flight, the tags in slots 0 and 77, and the statuses of tasks 1 and 2.
 #![tactic(auto)]
 
+ghost use Rattle.std.specs.Prelude.{◌≡◌, OnOk};
+ghost use Rattle.std.specs.Io.KnownBytes.{Appends};
+ghost use Rattle.told.specs.Lines.{same_word, answer_words, count_words, field_words, lengths_line};
+
 use std::io::{self, Write};
 use tables::{SessionTables, Tables};
 
@@ -45,27 +49,46 @@ fn heading(number: u32) -> Option<&'static str> {
 }
 
 // Whether the tables are what they were.
-fn word_of(same: bool) -> &'static str {
+fn word_of(same: bool) -> &'static str
+    ensures { result.now ≡ same_word same }
+{
     if same { "same" } else { "new" }
+}
+
+// A record, its answer, and whether the tables are what they were.
+fn tell_answer<W: Write>(
+    out: &mut W,
+    bytes: [u8; Tables::RECORD],
+    answer: u32,
+    same: bool,
+) -> io::Result<()>
+    ensures { OnOk result (Appends (W.contents out.old) (W.contents out.new) (answer_words bytes answer same)) }
+{
+    let [kind, a, b, c] = bytes;
+    let word = word_of(same);
+    write!(out, "{kind} {a} {b} {c} = {answer} {word}; ")
+}
+
+// Tasks made, finishes made, messages in flight.
+fn tell_counts<W: Write>(out: &mut W, tasks: u8, finishes: u8, messages: u32) -> io::Result<()>
+    ensures { OnOk result (Appends (W.contents out.old) (W.contents out.new) (count_words tasks finishes messages)) }
+{
+    write!(out, "{tasks} {finishes} {messages} ")
+}
+
+// Two tags and two statuses.
+fn tell_fields<W: Write>(out: &mut W, first: u8, second: u8, one: u8, two: u8) -> io::Result<()>
+    ensures { OnOk result (Appends (W.contents out.old) (W.contents out.new) (field_words first second one two)) }
+{
+    writeln!(out, "{first} {second} {one} {two}")
 }
 
 // The line of a step.
 fn tell_line<W: Write>(out: &mut W, step: &Step) -> io::Result<()> {
-    let [kind, a, b, c] = step.record;
-    let Step {
-        answer,
-        messages,
-        after: t,
-        ..
-    } = *step;
-    let word = word_of(t == step.before);
-    write!(out, "{kind} {a} {b} {c} = {answer} {word}; ")?;
-    write!(out, "{} {} {messages} ", t[TASKS_MADE], t[FINISHES_MADE])?;
-    writeln!(
-        out,
-        "{} {} {} {}",
-        t[TAG_0], t[TAG_77], t[STATUS_1], t[STATUS_2]
-    )
+    let t = step.after;
+    tell_answer(out, step.record, step.answer, t == step.before)?;
+    tell_counts(out, t[TASKS_MADE], t[FINISHES_MADE], step.messages)?;
+    tell_fields(out, t[TAG_0], t[TAG_77], t[STATUS_1], t[STATUS_2])
 }
 
 // Tells a step: the columns above the first, the heading where a section starts, and its line.
@@ -92,7 +115,9 @@ pub fn tell_lengths<W: Write>(
     record: usize,
     answer: u32,
     same: bool,
-) -> io::Result<()> {
+) -> io::Result<()>
+    ensures { OnOk result (Appends (W.contents out.old) (W.contents out.new) (lengths_line tables «record» answer same)) }
+{
     let word = word_of(same);
     writeln!(out, "lengths {tables} {record} = {answer} {word}")
 }

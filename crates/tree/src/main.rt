@@ -4,6 +4,7 @@
 ghost use Rattle.std.specs.Prelude.{true, ◌≡◌};
 ghost use Rattle.plan.specs.Plan.{fits};
 
+use arrayvec::ArrayString;
 use plan::Plan;
 use std::io::{self, Write};
 use tables::Tables;
@@ -15,7 +16,8 @@ fn print_run<W: Write>(output: &mut W, p: Plan) -> io::Result<()>
     let mut t = [0; Tables::BYTES];
     let mut log = [0; run::LOG];
     let tally = run::grow(&mut t, &mut log, p);
-    let text = lines::step_lines::<65536>(&log, tally.steps as usize);
+    let mut text = ArrayString::<65536>::new();
+    lines::put_steps(&mut text, &log, tally.steps as usize);
     output.write_all(text.as_str().as_bytes())?;
     lines::say_end(output, tally.steps, tally.kills, tally.zeros)
 }

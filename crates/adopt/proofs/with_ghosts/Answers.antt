@@ -11,8 +11,8 @@ loop-j-init c = rw (c.book_byte-marks.ensures, c.from.ensures) (marks_first _ _ 
 
 pub loop-j-preserved : goal.loop-j-preserved
 loop-j-preserved c = elim c.if-is_orphan.branch [
-  | then-is_orphan w ↦ rw (w.marks-is, w.with_mark-marks.ensures) (marks_one _ _ _ _ c.loop-j.invariant (omega arith) (orphan_there _ _ _ _ _ _ _ _ c.is_orphan.ensures w.if-is_orphan.true c.part.ensures c.book.ensures.0 c.new-g.ensures))
-  | else-is_orphan w ↦ rw w.marks-is (marks_none _ _ _ _ c.loop-j.invariant (orphan_there _ _ _ _ _ _ _ _ c.is_orphan.ensures w.if-is_orphan.false c.part.ensures c.book.ensures.0 c.new-g.ensures))
+  | then-is_orphan w ↦ rw (w.marks-is, w.with_mark-marks.ensures) (marks_one _ _ _ _ c.loop-j.invariant (omega arith) (orphan_there _ _ _ _ _ _ _ c.is_orphan.ensures w.if-is_orphan.true c.book.ensures.0 c.new-g.ensures))
+  | else-is_orphan w ↦ rw w.marks-is (marks_none _ _ _ _ c.loop-j.invariant (orphan_there _ _ _ _ _ _ _ c.is_orphan.ensures w.if-is_orphan.false c.book.ensures.0 c.new-g.ensures))
 ]
 
 pub returns : goal.returns

@@ -11,6 +11,6 @@ unfolding action_of action_named only0
 returns c =
     let tables = c.in-Some.ensures.cases in
     let w = both_right _ (9 ∷ c.args.places ∷ 0 ∷ 0 ∷ []) tables.long refl in (
-      right_says _ _ _ w (c.number_of.ensures ∙ (rw tables.same at c.act.ensures.answer)),
-      right_takes _ _ _ w (rw tables.same at c.act.ensures.tables),
+      right_says _ _ _ w (c.number_of.ensures ∙ (rw tables.same at c.begin_action.ensures.answer)),
+      right_takes _ _ _ w (rw tables.same at c.begin_action.ensures.tables),
     )

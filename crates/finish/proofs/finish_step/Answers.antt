@@ -1,4 +1,5 @@
 use Rattle.std.proofs.Common.{◌∙◌}
+use Rattle.rules.specs.Action.{action_of}
 use Rattle.finish.proofs.Entries.{tables_wrong, record_wrong, both_right, wrong_says, wrong_keeps, right_says, right_takes}
 use Rattle.finish.proofs.finish_step.Goals as goal
 
@@ -11,6 +12,7 @@ returns-in_default-try_from c =
     (c.into-in_default-try_from.ensures ∙ wrong_says _ _ w, c.in-Some.ensures.cases.same ∙ wrong_keeps _ _ w)
 
 pub returns : goal.returns
+unfolding action_of
 returns c =
     let tables = c.in-Some.ensures.cases in
     let four = c.in-Ok.ensures.1 in

@@ -5,5 +5,5 @@ use Rattle.walk.proofs.change_parts.Given as goal
 
 abbrev pub invariant-loop-j : goal.invariant-loop-j
 invariant-loop-j g l =
-    (f : List ℕ → ℕ → List ℕ) (i : ℕ) → KeepsLength f g.P.Part.SIZE → Makes g.P.Part.bytes g.P.Part.SIZE (goal.F-post g l.change) f l.at i l.n l.initial.t
-    → l.t ≡ change_parts f g.P.Part.SIZE i l.j l.at l.initial.t
+    (f : List ℕ → ℕ → List ℕ) (i : ℕ) → KeepsLength f l.w → Makes l.w (goal.F-post g l.change) f l.at i l.n l.initial.t
+    → l.t ≡ change_parts f l.w i l.j l.at l.initial.t
