@@ -19,7 +19,7 @@ fn kill_tasks(t: &mut SessionTables, p: u8, n: u8)
     ensures { t.new ≡ change_parts (kill_task p) 8 1 n 8 t.old }
 {
     let at = Tables::ROW * Tables::FIRST_TASK;
-    walk::change_parts(t, at, Tables::ROW, usize::from(n), |part, _| {
+    walk::lend_parts(t, at, Tables::ROW, usize::from(n), |part, _| {
         if let Some(row) = part.as_mut_array() {
             loss::kill_task(row, p);
         }
@@ -31,7 +31,7 @@ fn kill_finishes(t: &mut SessionTables, p: u8, n: u8)
     ensures { t.new ≡ change_parts (kill_finish p) 8 1 n 2048 t.old }
 {
     let at = Tables::ROW * Tables::FIRST_FINISH;
-    walk::change_parts(t, at, Tables::ROW, usize::from(n), |part, _| {
+    walk::lend_parts(t, at, Tables::ROW, usize::from(n), |part, _| {
         if let Some(row) = part.as_mut_array() {
             loss::kill_finish(row, p);
         }
@@ -43,7 +43,7 @@ fn kill_books(t: &mut SessionTables, p: Place)
     ensures { t.new ≡ change_parts (kill_book p) 144 1 32 2304 t.old }
 {
     let at = Tables::ROW * Tables::FIRST_BOOK;
-    walk::change_parts(t, at, Tables::BOOK_BYTES, Tables::FINISHES, |part, _| {
+    walk::lend_parts(t, at, Tables::BOOK_BYTES, Tables::FINISHES, |part, _| {
         if let Some(b) = part.as_mut_array() {
             loss::kill_book(b, p);
         }
@@ -56,7 +56,7 @@ fn kill_locals(t: &mut SessionTables, p: usize)
 {
     let at = Tables::ROW * Tables::FIRST_LOCAL;
     let books = Tables::FINISHES * Tables::PLACES;
-    walk::change_parts(t, at, Tables::ROW * Tables::LOCAL_ROWS, books, |part, y| {
+    walk::lend_parts(t, at, Tables::ROW * Tables::LOCAL_ROWS, books, |part, y| {
         if let Some(b) = part.as_mut_array() {
             loss::kill_local(b, y, p);
         }
@@ -73,7 +73,7 @@ fn kill_slots(t: &mut SessionTables, p: Place)
         at,
         Tables::ROW * Tables::SLOT_ROWS,
         Tables::SLOTS,
-        |t, at, _| loss::kill_slot(t, at, p),
+        |t, at, _| loss::kill_slot_at(t, at, p),
     );
 }
 

@@ -100,6 +100,16 @@ fn goes_to(t: &SessionTables, slot: &[u8; 16]) -> Option<u8>
     }
 }
 
+// A slot: a message that goes to p vanishes.
+#[tactic(auto, unfolding(rules::specs::Kill::kill_slot))]
+pub fn kill_slot(t: &SessionTables, slot: &mut [u8; 16], p: Place)
+    ensures { slot.new ≡ kill_slot t.now p slot.old 0 }
+{
+    if goes_to(t, slot) == Some(p.number()) {
+        *slot = [0; 16];
+    }
+}
+
 // The message of the slot at place `at` goes to p.
 fn goes_to_place(t: &SessionTables, at: usize, p: Place) -> bool
     requires { at + 16 ≤ 15104 }
@@ -110,11 +120,40 @@ fn goes_to_place(t: &SessionTables, at: usize, p: Place) -> bool
 
 // The slot at place `at`: a message that goes to p vanishes.
 #[tactic(auto, using(crate::proofs::Goes::write_unchanged), unfolding(rules::specs::Kill::kill_slot))]
-pub fn kill_slot(t: &mut SessionTables, at: usize, p: Place)
+pub fn kill_slot_at(t: &mut SessionTables, at: usize, p: Place)
     requires { at + 16 ≤ 15104 }
     ensures { t.new ≡ write t.old at (kill_slot t.old p (part t.old at 16) 0) }
 {
     if goes_to_place(t, at, p) {
         tables::clear_part(t, at, Tables::ROW * Tables::SLOT_ROWS);
+    }
+}
+
+#[cfg(test)]
+mod tests {
+    use super::*;
+
+    // The loss of place 2, which is the home of finish 3: a task goes to `to`, a denial to `from`, a release home, a report to the store.
+    #[test]
+    fn kills_a_lent_slot(rt: HostRuntime) {
+        let mut t = [0; Tables::BYTES];
+        t[Tables::finish(3)] = 2;
+        for (tag, from, to, vanishes) in [
+            (Tag::Task, 1, 2, true),
+            (Tag::Task, 2, 1, false),
+            (Tag::Denied, 2, 1, true),
+            (Tag::Denied, 1, 2, false),
+            (Tag::Release, 0, 0, true),
+            (Tag::Report, 2, 2, false),
+        ] {
+            let mut full = [1; 16];
+            full[0] = tag.into();
+            full[1] = 3;
+            full[3] = from;
+            full[4] = to;
+            let mut slot = full;
+            kill_slot(&t, &mut slot, Place::new(2));
+            assert_eq!(rt; slot, if vanishes { [0; 16] } else { full });
+        }
     }
 }

@@ -5,4 +5,4 @@ use Rattle.kill.proofs.kill_books.Goals as goal
 
 pub returns : goal.returns
 unfolding kill_book
-returns c = c.change_parts.ensures (kill_book c.args.p) 1 (book_keeps _) (λ u y z j h due out whole post. search rules)
+returns c = c.lend_parts.ensures (kill_book c.args.p) 1 (book_keeps _) (λ u y z j h due out whole post. search rules)

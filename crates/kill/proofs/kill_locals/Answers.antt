@@ -5,4 +5,4 @@ use Rattle.kill.proofs.kill_locals.Goals as goal
 
 pub returns : goal.returns
 unfolding kill_local
-returns c = c.change_parts.ensures (kill_local c.args.p) 0 (local_keeps _) (λ u y z j h due out whole post. search rules)
+returns c = c.lend_parts.ensures (kill_local c.args.p) 0 (local_keeps _) (λ u y z j h due out whole post. search rules)
